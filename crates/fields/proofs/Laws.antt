@@ -1,0 +1,10 @@
+-- The laws of the definitions in specs/, which the proofs of this crate and of the crates above it cite.
+
+pub mod Bytes
+pub mod Lists
+pub mod Numbers
+pub mod Text
+pub mod Layout
+pub mod Checks
+pub mod Stores
+pub mod Answer

@@ -1,0 +1,45 @@
+-- A writer's answer and its buffer: with no fault, and with one.
+use Prim.Native.Nat.{ℕ, zero, suc, _≤_, _<_}
+use mathlib.Core.Path.{_≡_, refl, sym, ap, _∙_}
+use mathlib.Core.Bool.{Bool, cond}
+use mathlib.Core.List.{List, _++_}
+use native.Mathlib.Omega.{arith}
+use lib.ListN.{length, drop}
+use lib.Seq.{sets}
+use borrow.Author.Tests.{eq-eqb, ne-eqb, le-leb, lt-leb}
+use Rattle.fields.specs.declared.Written.the-variants.{Wrote, Refused}
+use Rattle.fields.specs.Answer.{writtenNumber, writtenOf, roomFault, outAfter}
+use Rattle.fields.proofs.Laws.Stores.{sets-front}
+
+pub written-wrote : (fault n : ℕ) → fault ≡ 0 → writtenOf fault n ≡ Wrote n
+unfolding writtenOf
+written-wrote fault n h = ap (λ (t : Bool). cond t (Wrote n) (Refused fault)) (eq-eqb fault 0 h)
+
+pub written-refused : (fault n : ℕ) → (fault ≡ 0 → ⊥) → writtenOf fault n ≡ Refused fault
+unfolding writtenOf
+written-refused fault n h = ap (λ (t : Bool). cond t (Wrote n) (Refused fault)) (ne-eqb fault 0 h)
+
+-- the number of the answer is the fault's
+pub written-number : (fault n : ℕ) → writtenNumber (writtenOf fault n) ≡ fault
+written-number zero n = ap writtenNumber (written-wrote 0 n refl)
+written-number (suc k) n = ap writtenNumber (written-refused (suc k) n (λ e. let z : _≡_ {A = ℕ} (suc k) 0 = e in omega arith))
+
+pub room-enough : (n room : ℕ) → n ≤ room → roomFault n room ≡ 0
+unfolding roomFault
+room-enough n room h = ap (λ (t : Bool). cond t 0 20) (le-leb n room h)
+
+pub room-short : (n room : ℕ) → room < n → roomFault n room ≡ 20
+unfolding roomFault
+room-short n room h = ap (λ (t : Bool). cond t 0 20) (lt-leb n room h)
+
+pub out-wrote : (fault : ℕ) (bytes out : List ℕ) → fault ≡ 0 → outAfter fault bytes out ≡ bytes ++ drop (length bytes) out
+unfolding outAfter
+out-wrote fault bytes out h = ap (λ (t : Bool). cond t (bytes ++ drop (length bytes) out) out) (eq-eqb fault 0 h)
+
+pub out-refused : (fault : ℕ) (bytes out : List ℕ) → (fault ≡ 0 → ⊥) → outAfter fault bytes out ≡ out
+unfolding outAfter
+out-refused fault bytes out h = ap (λ (t : Bool). cond t (bytes ++ drop (length bytes) out) out) (ne-eqb fault 0 h)
+
+-- the buffer as the stores of the code leave it
+pub out-sets : (fault : ℕ) (bytes out : List ℕ) → fault ≡ 0 → length bytes ≤ length out → sets out 0 bytes ≡ outAfter fault bytes out
+out-sets fault bytes out h k = sets-front out bytes k ∙ sym (out-wrote fault bytes out h)

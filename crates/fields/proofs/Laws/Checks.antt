@@ -1,0 +1,42 @@
+-- Checks in order: what a check that passed tells, and which fault is given.
+use Prim.Native.Nat.{ℕ, zero, suc}
+use mathlib.Core.Path.{_≡_, refl, ap, _∙_}
+use mathlib.Core.Logic.{_⊎_, inl, inr}
+use mathlib.Core.Bool.{Bool, true, false, cond, _&&_, _||_, false≢true}
+use native.Mathlib.Omega.{arith}
+use Rattle.fields.specs.Checks.{orElse}
+
+pub zero-else : (a b : ℕ) → orElse a b ≡ 0 → (a ≡ 0) × (b ≡ 0)
+zero-else zero b h = (refl, h)
+zero-else (suc a) b h = absurd (let z : _≡_ {A = ℕ} (suc a) 0 = h in omega arith)
+
+pub else-zero : (a b : ℕ) → a ≡ 0 → b ≡ 0 → orElse a b ≡ 0
+else-zero a b h k = ap (λ (x : ℕ). orElse x b) h ∙ k
+
+pub else-first : (a b : ℕ) → (a ≡ 0 → ⊥) → orElse a b ≡ a
+else-first zero b h = absurd (h refl)
+else-first (suc a) b h = refl
+
+pub else-second : (a b : ℕ) → a ≡ 0 → orElse a b ≡ b
+else-second a b h = ap (λ (x : ℕ). orElse x b) h
+
+-- a test whose truth is a fault
+pub cond-fault : (t : Bool) (k n : ℕ) → cond t (suc k) n ≡ 0 → (t ≡ false) × (n ≡ 0)
+cond-fault true k n h = absurd (let z : _≡_ {A = ℕ} (suc k) 0 = h in omega arith)
+cond-fault false k n h = (refl, h)
+
+-- a test whose failure is a fault
+pub cond-pass : (t : Bool) (k n : ℕ) → cond t n (suc k) ≡ 0 → (t ≡ true) × (n ≡ 0)
+cond-pass true k n h = (refl, h)
+cond-pass false k n h = absurd (let z : _≡_ {A = ℕ} (suc k) 0 = h in omega arith)
+
+pub and-split : (a b : Bool) → (a && b) ≡ true → (a ≡ true) × (b ≡ true)
+and-split true b h = (refl, h)
+and-split false b h = absurd (false≢true h)
+
+pub and-join : (a b : Bool) → a ≡ true → b ≡ true → (a && b) ≡ true
+and-join a b h k = ap (λ (x : Bool). x && b) h ∙ k
+
+pub or-split : (a b : Bool) → (a || b) ≡ true → (a ≡ true) ⊎ (b ≡ true)
+or-split true b h = inl refl
+or-split false b h = inr h

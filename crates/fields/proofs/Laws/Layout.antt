@@ -1,0 +1,73 @@
+-- Layouts, for any number of fields.
+use Prim.Native.Nat.{ℕ, _+_, _≤_}
+use mathlib.Core.Path.{_≡_, refl, sym, ap, ap₂, _∙_}
+use mathlib.Core.List.{List, [], _∷_, _++_, map, append-assoc}
+use native.Mathlib.Omega.{arith}
+use lib.ListN.{length, take, drop, length-append}
+use lib.Seq.{take-add, drop-drop, take-at, drop-at}
+use Rattle.fields.specs.Bytes.{Bytes, part}
+use Rattle.fields.specs.Lists.{Each}
+use Rattle.fields.specs.Numbers.{beVal}
+use Rattle.fields.specs.Layout.{total, join, cut, Widths, numbersAt, numberFields, NumbersFit}
+use Rattle.fields.proofs.Laws.Bytes.{bytes-nil, bytes-append}
+use Rattle.fields.proofs.Laws.Numbers.{length-beBytes, bytes-beBytes, beVal-beBytes, beBytes-beAt}
+
+pub length-join : (xs : List (List ℕ)) (ws : List ℕ) → Widths xs ws → length (join xs) ≡ total ws
+length-join [] [] h = refl
+length-join [] (w ∷ ws) h = absurd h
+length-join (x ∷ xs) [] h = absurd h
+length-join (x ∷ xs) (w ∷ ws) h = length-append x (join xs) ∙ omega (arith, h .0, length-join xs ws (h .1))
+
+pub bytes-join : (xs : List (List ℕ)) → Each Bytes xs → Bytes (join xs)
+bytes-join [] h = bytes-nil
+bytes-join (x ∷ xs) h = bytes-append x (join xs) (h .0) (bytes-join xs (h .1))
+
+-- the cut fields joined are the bytes that were cut
+pub join-cut : (at : ℕ) (ws s : List ℕ) → join (cut at ws s) ≡ part (total ws) at s
+join-cut at [] s = refl
+join-cut at (w ∷ ws) s =
+    ap (λ (r : List ℕ). part w at s ++ r) (join-cut (at + w) ws s ∙ ap (λ (r : List ℕ). take (total ws) r) (sym (drop-drop w at s)))
+    ∙ sym (take-add w (total ws) (drop at s))
+
+-- joined fields are cut into themselves
+pub cut-join : (pre : List ℕ) (xs : List (List ℕ)) (ws rest : List ℕ) (at : ℕ) → length pre ≡ at → Widths xs ws → cut at ws (pre ++ (join xs ++ rest)) ≡ xs
+cut-join pre [] [] rest at e h = refl
+cut-join pre [] (w ∷ ws) rest at e h = absurd h
+cut-join pre (x ∷ xs) [] rest at e h = absurd h
+cut-join pre (x ∷ xs) (w ∷ ws) rest at e h =
+    let head : part w at (pre ++ (join (x ∷ xs) ++ rest)) ≡ x =
+    ap (λ (r : List ℕ). take w r) (drop-at pre (join (x ∷ xs) ++ rest) at e)
+    ∙ ap (λ (r : List ℕ). take w r) (append-assoc x (join xs) rest)
+    ∙ take-at x (join xs ++ rest) w (h .0) in
+    let same : pre ++ (join (x ∷ xs) ++ rest) ≡ (pre ++ x) ++ (join xs ++ rest) =
+    ap (λ (r : List ℕ). pre ++ r) (append-assoc x (join xs) rest) ∙ sym (append-assoc pre x (join xs ++ rest)) in
+    let tail : cut (at + w) ws (pre ++ (join (x ∷ xs) ++ rest)) ≡ xs =
+    ap (λ (r : List ℕ). cut (at + w) ws r) same
+    ∙ cut-join (pre ++ x) xs ws rest (at + w) (length-append pre x ∙ cc) (h .1) in
+    cc
+
+-- ---- layouts of numbers alone
+
+pub widths-numbers : (ws vs : List ℕ) → NumbersFit ws vs → Widths (numberFields ws vs) ws
+widths-numbers [] [] h = tt
+widths-numbers [] (v ∷ vs) h = absurd h
+widths-numbers (w ∷ ws) [] h = absurd h
+widths-numbers (w ∷ ws) (v ∷ vs) h = (length-beBytes w v, widths-numbers ws vs (h .1))
+
+pub bytes-numbers : (ws vs : List ℕ) → Each Bytes (numberFields ws vs)
+bytes-numbers [] vs = tt
+bytes-numbers (w ∷ ws) [] = tt
+bytes-numbers (w ∷ ws) (v ∷ vs) = (bytes-beBytes w v, bytes-numbers ws vs)
+
+-- the numbers read, as fields, are the fields read
+pub numbers-back : (at : ℕ) (ws s : List ℕ) → Bytes s → at + total ws ≤ length s → numberFields ws (numbersAt at ws s) ≡ cut at ws s
+numbers-back at [] s b h = refl
+numbers-back at (w ∷ ws) s b h =
+    ap₂ {C = List (List ℕ)} (λ x xs. x ∷ xs) (beBytes-beAt w at s b (omega arith)) (numbers-back (at + w) ws s b (omega arith))
+
+-- the numbers read from numbers' fields are those numbers
+pub numbers-front : (ws vs : List ℕ) → NumbersFit ws vs → map beVal (numberFields ws vs) ≡ vs
+numbers-front [] [] h = refl
+numbers-front [] (v ∷ vs) h = absurd h
+numbers-front (w ∷ ws) [] h = absurd h
+numbers-front (w ∷ ws) (v ∷ vs) h = ap₂ {C = List ℕ} (λ x xs. x ∷ xs) (beVal-beBytes w v (h .0)) (numbers-front ws vs (h .1))

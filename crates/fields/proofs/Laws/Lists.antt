@@ -1,0 +1,73 @@
+-- Tests and rules at each element of a list, and the bytes of its elements one after the other.
+-- ---- a test at each element, as a loop makes it: what it is from place i on
+use Prim.Native.Nat.{ℕ, _+_, _≤_, _<_}
+use mathlib.Core.Path.{_≡_, refl, sym, ap, _∙_}
+use mathlib.Core.Bool.{Bool, true, false}
+use mathlib.Core.List.{List, [], _∷_, _++_, append-assoc, append-nil}
+use native.Mathlib.Omega.{arith}
+use native.Mathlib.Numerals.{add-one}
+use lib.ListN.{length, getD, take, drop, length-append, take-append-drop, drop-of-length-le}
+use lib.Seq.{take-suc, take-all, drop-cons}
+use Rattle.fields.specs.Lists.{all, Each, flat}
+use Rattle.fields.proofs.Laws.Checks.{and-split, and-join}
+
+module _ {A : Type 0} (p : A → Bool) where
+  pub all-step : (xs : List A) (i : ℕ) (d : A) → i < length xs → p (getD xs i d) ≡ true → all p (drop i xs) ≡ all p (drop (i + 1) xs)
+  unfolding all
+  all-step xs i d h e = rw (add-one i, drop-cons xs i d h, e) refl
+
+  pub all-stop : (xs : List A) (i : ℕ) (d : A) → i < length xs → p (getD xs i d) ≡ false → all p (drop i xs) ≡ false
+  unfolding all
+  all-stop xs i d h e = rw (drop-cons xs i d h, e) refl
+
+  pub all-end : (xs : List A) (i : ℕ) → length xs ≤ i → all p (drop i xs) ≡ true
+  unfolding all
+  all-end xs i h = rw (drop-of-length-le xs h) refl
+
+-- ---- a test and the rule that it tests
+
+module _ {A : Type 0} (p : A → Bool) (P : A → Type 0) where
+  pub all-each : ((x : A) → p x ≡ true → P x) → (xs : List A) → all p xs ≡ true → Each P xs
+  unfolding all
+  all-each f [] h = tt
+  all-each f (x ∷ xs) h = let k = and-split (p x) (all p xs) h in (f x (k .0), all-each f xs (k .1))
+
+  pub each-all : ((x : A) → P x → p x ≡ true) → (xs : List A) → Each P xs → all p xs ≡ true
+  unfolding all
+  each-all f [] h = refl
+  each-all f (x ∷ xs) h = and-join (p x) (all p xs) (f x (h .0)) (each-all f xs (h .1))
+
+-- ---- bytes of elements, one after the other
+
+module _ {A : Type 0} (f : A → List ℕ) where
+  pub flat-append : (xs ys : List A) → flat f (xs ++ ys) ≡ flat f xs ++ flat f ys
+  unfolding flat
+  flat-append [] ys = refl
+  flat-append (x ∷ xs) ys = ap (λ (l : List ℕ). f x ++ l) (flat-append xs ys) ∙ sym (append-assoc (f x) (flat f xs) (flat f ys))
+
+  flat-one : (x : A) → flat f (x ∷ []) ≡ f x
+  unfolding flat
+  flat-one x = append-nil (f x)
+
+  -- as a loop writes them: none, one more, all
+  pub flat-none : (xs : List A) → flat f (take 0 xs) ≡ []
+  unfolding flat
+  flat-none xs = refl
+
+  pub flat-next : (xs : List A) (i : ℕ) (d : A) → i < length xs → flat f (take (i + 1) xs) ≡ flat f (take i xs) ++ f (getD xs i d)
+  flat-next xs i d h =
+      ap (λ (n : ℕ). flat f (take n xs)) (add-one i)
+      ∙ ap (flat f) (take-suc xs i d h)
+      ∙ flat-append (take i xs) (getD xs i d ∷ [])
+      ∙ ap (λ (l : List ℕ). flat f (take i xs) ++ l) (flat-one (getD xs i d))
+
+  pub flat-all : (xs : List A) (i : ℕ) → length xs ≤ i → flat f (take i xs) ≡ flat f xs
+  flat-all xs i h = ap (flat f) (take-all i xs h)
+
+  pub length-flat-next : (xs : List A) (i : ℕ) (d : A) → i < length xs → length (flat f (take (i + 1) xs)) ≡ length (flat f (take i xs)) + length (f (getD xs i d))
+  length-flat-next xs i d h = ap length (flat-next xs i d h) ∙ length-append (flat f (take i xs)) (f (getD xs i d))
+
+  pub length-flat-le : (xs : List A) (i : ℕ) → length (flat f (take i xs)) ≤ length (flat f xs)
+  length-flat-le xs i =
+      let e = ap length (sym (flat-append (take i xs) (drop i xs)) ∙ ap (flat f) (take-append-drop i xs)) in
+      omega (arith, length-append (flat f (take i xs)) (flat f (drop i xs)))

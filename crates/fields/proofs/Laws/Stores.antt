@@ -1,0 +1,75 @@
+-- Runs of bytes stored into a list (`sets` of lib.Seq). A store past the end changes nothing.
+-- a second run where the first ended
+use Prim.Native.Nat.{ℕ, zero, suc, min, _+_, _-_, _≤_, _<_}
+use mathlib.Core.Path.{_≡_, refl, sym, ap, _∙_}
+use mathlib.Core.List.{List, [], _∷_, _++_}
+use native.Mathlib.Omega.{arith}
+use native.Mathlib.Nat.{add-suc, suc-add, add-zero, zero-add, le-of-lt}
+use native.Mathlib.Numerals.{add-one}
+use native.Mathlib.Decide.{decLe}
+use lib.ListN.{replicate, length, getD, take, drop, set, take-append-drop, drop-of-length-le}
+use lib.Seq.{sets, length-sets, sets-eq, set-out, take-suc, length-take-le}
+use Rattle.fields.specs.Bytes.{sized}
+use Rattle.fields.specs.Layout.{join, Widths, stores}
+use Rattle.fields.proofs.Laws.Bytes.{sized-zero, sized-cons, sized-nil}
+
+pub sets-append : (l : List ℕ) (i : ℕ) (xs ys : List ℕ) → sets l i (xs ++ ys) ≡ sets (sets l i xs) (i + length xs) ys
+sets-append l i [] ys = ap (λ (k : ℕ). sets l k ys) (sym (add-zero i))
+sets-append l i (x ∷ xs) ys =
+    sets-append (set l i x) (suc i) xs ys
+    ∙ ap (λ (k : ℕ). sets (sets (set l i x) (suc i) xs) k ys) (suc-add i (length xs) ∙ sym (add-suc i (length xs)))
+
+pub sets-past : (l : List ℕ) (i : ℕ) (xs : List ℕ) → length l ≤ i → sets l i xs ≡ l
+sets-past l i [] h = refl
+sets-past l i (x ∷ xs) h =
+    ap (λ (r : List ℕ). sets r (suc i) xs) (set-out l i x h) ∙ sets-past l (suc i) xs (omega arith)
+
+-- a run from the front that fits: the bytes, and what stood behind them
+pub sets-front : (l xs : List ℕ) → length xs ≤ length l → sets l 0 xs ≡ xs ++ drop (length xs) l
+sets-front l xs h =
+    let k : 0 + length xs ≤ length l = omega arith in
+    sets-eq xs l 0 k ∙ ap (λ (n : ℕ). xs ++ drop n l) (zero-add (length xs))
+
+-- fields, each stored where the one before it ends, are one run
+pub stores-join : (out : List ℕ) (at : ℕ) (xs : List (List ℕ)) (ws : List ℕ) → Widths xs ws → stores out at xs ws ≡ sets out at (join xs)
+stores-join out at [] ws h = refl
+stores-join out at (x ∷ xs) [] h = absurd h
+stores-join out at (x ∷ xs) (w ∷ ws) h =
+    stores-join (sets out at x) (at + w) xs ws (h .1)
+    ∙ ap (λ (n : ℕ). sets (sets out at x) (at + n) (join xs)) (sym (h .0))
+    ∙ sym (sets-append out at x (join xs))
+
+-- ---- the loop that copies
+
+pub put-next : (l src : List ℕ) (at i : ℕ) → i < length src → set (sets l at (take i src)) (at + i) (getD src i 0) ≡ sets l at (take (i + 1) src)
+put-next l src at i h =
+    sym (ap (λ (n : ℕ). sets l at (take n src)) (add-one i)
+    ∙ ap (λ (r : List ℕ). sets l at r) (take-suc src i 0 h)
+    ∙ sets-append l at (take i src) (getD src i 0 ∷ [])
+    ∙ ap (λ (n : ℕ). set (sets l at (take i src)) (at + n) (getD src i 0)) (length-take-le i src (le-of-lt h)))
+
+-- what lies past the end is left out
+pub put-end : (l src : List ℕ) (at n : ℕ) → at ≤ length l → n ≡ min (length src) (length l - at) → sets l at (take n src) ≡ sets l at src
+put-end l src at n h e =
+    let k : n ≤ length src = omega arith in
+    let past : sets (sets l at (take n src)) (at + n) (drop n src) ≡ sets l at (take n src) = go (decLe (length l) (at + n)) in
+    sym past
+    ∙ ap (λ (m : ℕ). sets (sets l at (take n src)) (at + m) (drop n src)) (sym (length-take-le n src k))
+    ∙ sym (sets-append l at (take n src) (drop n src))
+    ∙ ap (λ (r : List ℕ). sets l at r) (take-append-drop n src)
+  where
+    go : Dec (length l ≤ at + n) → sets (sets l at (take n src)) (at + n) (drop n src) ≡ sets l at (take n src)
+    go (yes p) = sets-past (sets l at (take n src)) (at + n) (drop n src) (rw length-sets p)
+    go (no p) = ap (λ (r : List ℕ). sets (sets l at (take n src)) (at + n) r) (drop-of-length-le src {i = n} (omega arith))
+
+-- ---- a copy into an array of zeros
+
+sets-cons : (x : ℕ) (l : List ℕ) (i : ℕ) (xs : List ℕ) → sets (x ∷ l) (suc i) xs ≡ x ∷ sets l i xs
+sets-cons x l i [] = refl
+sets-cons x l i (y ∷ ys) = sets-cons x (set l i y) (suc i) ys
+
+pub sets-zeros : (w : ℕ) (s : List ℕ) → sets (replicate w 0) 0 s ≡ sized w s
+sets-zeros zero s = sets-past [] 0 s (omega arith) ∙ sym (sized-zero s)
+sets-zeros (suc w) [] = sym (sized-nil (suc w))
+sets-zeros (suc w) (x ∷ s) =
+    sets-cons x (replicate w 0) 0 s ∙ ap {B = List ℕ} (λ l. x ∷ l) (sets-zeros w s) ∙ sym (sized-cons w x s)

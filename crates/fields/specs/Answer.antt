@@ -1,0 +1,30 @@
+-- The answer of a writer, and what it leaves in the buffer lent to it.
+-- document 01's number of each answer
+use Prim.Native.Nat.{ℕ}
+use mathlib.Core.Bool.{cond}
+use mathlib.Core.List.{List, _++_}
+use lib.Dec.{eqb, leb}
+use lib.ListN.{length, drop}
+use Rattle.fields.specs.declared.Written.{Written}
+use Rattle.fields.specs.declared.Written.the-variants.{Wrote, Refused}
+
+abbrev pub writtenNumber : Written → ℕ
+writtenNumber (Wrote n) = 0
+writtenNumber (Refused k) = k
+
+-- how many bytes were written
+abbrev pub writtenCount : Written → ℕ
+writtenCount (Wrote n) = n
+writtenCount (Refused k) = 0
+
+-- the answer of a writer that found this fault and otherwise writes n bytes
+unfoldable pub writtenOf : ℕ → ℕ → Written
+writtenOf fault n = cond (eqb fault 0) (Wrote n) (Refused fault)
+
+-- check 20: the output is too short for n bytes
+unfoldable pub roomFault : ℕ → ℕ → ℕ
+roomFault n room = cond (leb n room) 0 20
+
+-- the buffer after it: these bytes and what stood behind them, or all as it was
+unfoldable pub outAfter : ℕ → List ℕ → List ℕ → List ℕ
+outAfter fault bytes out = cond (eqb fault 0) (bytes ++ drop (length bytes) out) out

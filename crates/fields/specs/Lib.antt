@@ -1,0 +1,10 @@
+-- The definitions that the contracts of this crate, and of every crate above it, are stated with. Nothing is proved here.
+
+pub mod Bytes
+pub mod Lists
+pub mod Numbers
+pub mod Text
+pub mod Layout
+pub mod Checks
+pub mod Answer
+pub mod Examples

@@ -1,0 +1,19 @@
+-- Big-endian numbers, over the width: the number that bytes spell, and the bytes of a number.
+-- the number that the bytes spell, the most significant byte first
+use Prim.Native.Nat.{ℕ, zero, suc, _+_, _*_, _/_, _%_, _^_}
+use mathlib.Core.List.{List, [], _∷_}
+use lib.ListN.{length}
+use Rattle.fields.specs.Bytes.{part}
+
+unfoldable pub beVal : List ℕ → ℕ
+beVal [] = 0
+beVal (b ∷ bs) = b * 256 ^ length bs + beVal bs
+
+-- the last n digits of v to the base 256, the most significant first
+unfoldable pub beBytes : ℕ → ℕ → List ℕ
+beBytes zero v = []
+beBytes (suc n) v = v / 256 ^ n % 256 ∷ beBytes n v
+
+-- the number of n bytes at a place; bytes past the end are left out, so that of no bytes is 0
+abbrev pub beAt : ℕ → ℕ → List ℕ → ℕ
+beAt n at s = beVal (part n at s)

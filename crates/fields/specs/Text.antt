@@ -1,0 +1,64 @@
+-- Texts, and the fields that hold them. Document 01's text field: bytes 1 to 127, then zeros to its end; it may be full, or empty.
+-- may the byte stand in a text?
+use Prim.Native.Nat.{ℕ, _<_, _≤_}
+use mathlib.Core.Path.{_≡_}
+use mathlib.Core.Bool.{Bool, true, cond, _&&_}
+use mathlib.Core.List.{List, [], _∷_}
+use lib.Dec.{eqb, ltb, leb}
+use lib.ListN.{length}
+use Rattle.fields.specs.Bytes.{sized}
+use Rattle.fields.specs.Lists.{all, Each}
+
+abbrev pub textByte : ℕ → Bool
+textByte b = ltb 0 b && ltb b 128
+
+-- is it a text: bytes 1 to 127 and nothing else? So are names and keys.
+unfoldable pub isText : List ℕ → Bool
+isText t = all textByte t
+
+abbrev pub Text : List ℕ → Type 0
+Text t = Each (λ b. (0 < b) × (b < 128)) t
+
+-- the bytes before the first 0: the text of a field, the first name of a table
+unfoldable pub textOf : List ℕ → List ℕ
+textOf [] = []
+textOf (b ∷ bs) = cond (eqb b 0) [] (b ∷ textOf bs)
+
+-- the bytes after the first 0: the rest of a field, what follows the first name of a table
+unfoldable pub pastText : List ℕ → List ℕ
+pastText [] = []
+pastText (b ∷ bs) = cond (eqb b 0) bs (pastText bs)
+
+-- is the byte 0?
+abbrev pub zeroByte : ℕ → Bool
+zeroByte b = leb b 0
+
+unfoldable pub allZero : List ℕ → Bool
+allZero s = all zeroByte s
+
+-- the first half of a text field's rule: what stands before the first 0 is a text
+unfoldable pub textOk : List ℕ → Bool
+textOk f = isText (textOf f)
+
+-- the second half: what stands after it is zeros
+unfoldable pub textClean : List ℕ → Bool
+textClean f = allZero (pastText f)
+
+-- is it a text field?
+unfoldable pub fieldOk : List ℕ → Bool
+fieldOk f = textOk f && textClean f
+
+-- the text t in a field of w bytes, cut off where it is longer
+unfoldable pub textBytes : ℕ → List ℕ → List ℕ
+textBytes w t = sized w t
+
+-- ---- what is proved of text fields: one is a text field exactly when it holds some text, and it holds only one
+
+pub record Holds (f t : List ℕ) : Type 0 where
+  pub text : Text t
+  pub fits : length t ≤ length f
+  pub bytes : textBytes (length f) t ≡ f
+
+pub record TextFields : Type 0 where
+  pub accepted : (f : List ℕ) → fieldOk f ≡ true → Holds f (textOf f)
+  pub written : (f t : List ℕ) → Holds f t → (fieldOk f ≡ true) × (textOf f ≡ t)

@@ -1,0 +1,54 @@
+// Fields of a byte layout, read from lent slices and written into lent buffers. Every function answers for every slice, place and
+// number: a read past the end leaves out what is not there, and a write past the end leaves out what does not fit.
+pub mod number;
+pub mod part;
+pub mod store;
+pub mod text;
+
+ghost use mathlib.Core.Path.{_≡_};
+ghost use Rattle.fields.specs.Answer.{writtenNumber, writtenCount, writtenOf, roomFault};
+
+// The answer of a writer: how many bytes it wrote, or document 01's number of the refusal.
+pub enum Written {
+    Wrote(usize),
+    Refused(u8),
+}
+
+impl Written {
+    // 0 where it wrote.
+    pub fn number(self) -> u8
+        ensures { λ r. ⌜ r ≡ writtenNumber self ⌝ }
+    {
+        match self {
+            Written::Wrote(_) => 0,
+            Written::Refused(n) => n,
+        }
+    }
+
+    // 0 where it refused.
+    pub fn count(self) -> usize
+        ensures { λ r. ⌜ r ≡ writtenCount self ⌝ }
+    {
+        match self {
+            Written::Wrote(n) => n,
+            Written::Refused(_) => 0,
+        }
+    }
+}
+
+// The answer of a writer that found this fault, or none, and otherwise writes n bytes.
+pub fn answer(fault: u8, n: usize) -> Written
+    ensures { λ r. ⌜ r ≡ writtenOf fault n ⌝ }
+{
+    if fault == 0 {
+        return Written::Wrote(n);
+    }
+    Written::Refused(fault)
+}
+
+// 20 where a buffer of this length is too short for n bytes.
+pub fn room_fault(n: usize, room: usize) -> u8
+    ensures { λ r. ⌜ r ≡ roomFault n room ⌝ }
+{
+    if n <= room { 0 } else { 20 }
+}

@@ -1,0 +1,92 @@
+// Texts and text fields.
+ghost use mathlib.Core.Path.{_≡_};
+ghost use lib.ListN.{length};
+ghost use lib.Seq.{sets};
+ghost use Rattle.fields.specs.Text.{isText, textOf, pastText, allZero, fieldOk, textBytes};
+
+// Is it a text: bytes 1 to 127 and nothing else? Names and keys are texts.
+pub fn is_text(t: &[u8]) -> bool
+    ensures { λ r. ⌜ r ≡ isText (now (t .entry)) ⌝ }
+{
+    let mut i = 0;
+    while i < t.len() {
+        let b = t[i];
+        if b == 0 {
+            return false;
+        }
+        if 128 <= b {
+            return false;
+        }
+        i += 1;
+    }
+    true
+}
+
+// How many bytes stand before the first 0: the length of a field's text.
+pub fn text_len(s: &[u8]) -> usize
+    ensures { λ r. ⌜ r ≡ length (textOf (now (s .entry))) ⌝ }
+{
+    let mut i = 0;
+    while i < s.len() {
+        if s[i] == 0 {
+            return i;
+        }
+        i += 1;
+    }
+    i
+}
+
+// The bytes before the first 0: a field's text, a table's first name.
+pub fn text_of(s: &[u8]) -> &[u8]
+    ensures { λ r. ⌜ now r ≡ textOf (now (s .entry)) ⌝ }
+{
+    let n = text_len(s);
+    crate::part::first(s, n)
+}
+
+// The bytes past the first 0; nothing where there is none.
+pub fn past_text(s: &[u8]) -> &[u8]
+    ensures { λ r. ⌜ now r ≡ pastText (now (s .entry)) ⌝ }
+{
+    let n = text_len(s);
+    crate::part::rest(s, n + 1)
+}
+
+pub fn all_zero(s: &[u8]) -> bool
+    ensures { λ r. ⌜ r ≡ allZero (now (s .entry)) ⌝ }
+{
+    let mut i = 0;
+    while i < s.len() {
+        if 0 < s[i] {
+            return false;
+        }
+        i += 1;
+    }
+    true
+}
+
+// Is the whole slice a text field?
+pub fn is_text_field(f: &[u8]) -> bool
+    ensures { λ r. ⌜ r ≡ fieldOk (now (f .entry)) ⌝ }
+{
+    if !is_text(text_of(f)) {
+        return false;
+    }
+    all_zero(past_text(f))
+}
+
+// Writes a text into a field of 12 bytes at a place: the text, then zeros. What does not fit the field is left out.
+pub fn put_text12(t: &[u8], at: usize, out: &mut [u8])
+    ensures { λ _. ⌜ now (out .exit) ≡ sets (now (out .entry)) at (textBytes 12 (now (t .entry))) ⌝ }
+{
+    let a = crate::store::array12(t);
+    crate::store::put(&a, at, out);
+}
+
+// The same for a field of 20 bytes.
+pub fn put_text20(t: &[u8], at: usize, out: &mut [u8])
+    ensures { λ _. ⌜ now (out .exit) ≡ sets (now (out .entry)) at (textBytes 20 (now (t .entry))) ⌝ }
+{
+    let a = crate::store::array20(t);
+    crate::store::put(&a, at, out);
+}
