@@ -1,4 +1,4 @@
--- The examples P1 to P3, by computation. Assumes nothing.
+-- The examples P1 to P3, by computation.
 use mathlib.Core.Path.{refl}
 use Rattle.crc64.specs.Crc.{bitStep, run, bitAt, bitsOf, bits, crcOf}
 use Rattle.crc64.specs.Examples.{Examples}

@@ -1,5 +1,5 @@
 -- Laws of the CRC's definitions, for the proofs of this crate and of those that cite the CRC. In them r is a register, b a bit,
--- x a byte, u, v and bs lists of bits, and s and t bodies. Assumes nothing.
+-- x a byte, u, v and bs lists of bits, and s and t bodies.
 use mathlib.Core.Path.{_≡_, refl, sym, ap, _∙_}
 use mathlib.Core.Bool.{Bool, true, false, cond}
 use mathlib.Core.List.{List, [], _∷_, _++_, append-assoc}

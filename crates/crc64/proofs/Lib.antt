@@ -1,2 +1,3 @@
-pub mod Examples
+-- The laws that other crates cite, and the computed examples.
 pub mod Laws
+pub mod Examples

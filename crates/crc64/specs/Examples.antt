@@ -1,4 +1,4 @@
--- The examples P1 to P3 of document 01, as one statement. Assumes nothing.
+-- The examples P1 to P3 of document 01, as one statement.
 use mathlib.Core.Path.{_≡_}
 use mathlib.Core.List.{[], _∷_}
 use Rattle.crc64.specs.Crc.{crcOf}

@@ -1,5 +1,4 @@
 -- The answer of a writer, and what it leaves in the buffer lent to it.
--- document 01's number of each answer
 use Prim.Native.Nat.{ℕ}
 use mathlib.Core.Bool.{cond}
 use mathlib.Core.List.{List, _++_}
@@ -8,6 +7,7 @@ use lib.ListN.{length, drop}
 use Rattle.fields.specs.declared.Written.{Written}
 use Rattle.fields.specs.declared.Written.the-variants.{Wrote, Refused}
 
+-- document 01's number of each answer
 abbrev pub writtenNumber : Written → ℕ
 writtenNumber (Wrote n) = 0
 writtenNumber (Refused k) = k

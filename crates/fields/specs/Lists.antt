@@ -1,9 +1,9 @@
 -- Lists of any elements: a test or a rule at each of them, and the bytes that they are written as.
--- does every element pass the test p?
 use Prim.Native.Nat.{ℕ}
 use mathlib.Core.Bool.{Bool, true, _&&_}
 use mathlib.Core.List.{List, [], _∷_, _++_}
 
+-- does every element pass the test p?
 unfoldable pub all : {A : Type 0} → (A → Bool) → List A → Bool
 all p [] = true
 all p (x ∷ xs) = p x && all p xs

@@ -1,10 +1,10 @@
 -- Big-endian numbers, over the width: the number that bytes spell, and the bytes of a number.
--- the number that the bytes spell, the most significant byte first
 use Prim.Native.Nat.{ℕ, zero, suc, _+_, _*_, _/_, _%_, _^_}
 use mathlib.Core.List.{List, [], _∷_}
 use lib.ListN.{length}
 use Rattle.fields.specs.Bytes.{part}
 
+-- the number that the bytes spell, the most significant byte first
 unfoldable pub beVal : List ℕ → ℕ
 beVal [] = 0
 beVal (b ∷ bs) = b * 256 ^ length bs + beVal bs

@@ -1,5 +1,4 @@
 -- Texts, and the fields that hold them. Document 01's text field: bytes 1 to 127, then zeros to its end; it may be full, or empty.
--- may the byte stand in a text?
 use Prim.Native.Nat.{ℕ, _<_, _≤_}
 use mathlib.Core.Path.{_≡_}
 use mathlib.Core.Bool.{Bool, true, cond, _&&_}
@@ -9,6 +8,7 @@ use lib.ListN.{length}
 use Rattle.fields.specs.Bytes.{sized}
 use Rattle.fields.specs.Lists.{all, Each}
 
+-- may the byte stand in a text?
 abbrev pub textByte : ℕ → Bool
 textByte b = ltb 0 b && ltb b 128
 

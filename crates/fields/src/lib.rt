@@ -1,7 +1,7 @@
 // Fields of a byte layout, read from lent slices and written into lent buffers. Every function answers for every slice, place and
 // number: a read past the end leaves out what is not there, and a write past the end leaves out what does not fit.
 pub mod number;
-pub mod part;
+pub mod slice;
 pub mod store;
 pub mod text;
 

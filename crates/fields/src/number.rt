@@ -16,7 +16,7 @@ fn be(s: &[u8], at: usize, n: usize) -> u64
     ensures value { λ r. ⌜ r ≡ beAt n at (now (s .entry)) ⌝ }
     ensures bound { λ r. ⌜ r < 256 ^ n ⌝ }
 {
-    let t = crate::part::part(s, at, n);
+    let t = crate::slice::part(s, at, n);
     let mut v: u64 = 0;
     let mut i = 0;
     while i < t.len() {

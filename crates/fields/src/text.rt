@@ -41,7 +41,7 @@ pub fn text_of(s: &[u8]) -> &[u8]
     ensures { λ r. ⌜ now r ≡ textOf (now (s .entry)) ⌝ }
 {
     let n = text_len(s);
-    crate::part::first(s, n)
+    crate::slice::first(s, n)
 }
 
 // The bytes past the first 0; nothing where there is none.
@@ -49,7 +49,7 @@ pub fn past_text(s: &[u8]) -> &[u8]
     ensures { λ r. ⌜ now r ≡ pastText (now (s .entry)) ⌝ }
 {
     let n = text_len(s);
-    crate::part::rest(s, n + 1)
+    crate::slice::rest(s, n + 1)
 }
 
 pub fn all_zero(s: &[u8]) -> bool

@@ -31,12 +31,12 @@ fn print_crcs(records: &[u8]) {
     let mut left = records;
     while 2 <= left.len() {
         let size = fields::number::be16(left, 0) as usize;
-        let body = fields::part::rest(left, 2);
+        let body = fields::slice::rest(left, 2);
         if body.len() < size {
             return;
         }
-        print_crc(crc64::crc64(fields::part::first(body, size)));
-        let next = fields::part::rest(body, size);
+        print_crc(crc64::crc64(fields::slice::first(body, size)));
+        let next = fields::slice::rest(body, size);
         left = next;
     }
 }

@@ -1,5 +1,4 @@
 -- `crc64::byte_step` meets its contract. The loop's invariant: the register has taken the first `i` bits of the byte.
--- Assumes nothing.
 use mathlib.Core.Path.{_≡_, refl, sym, ap, _∙_}
 use Prim.Native.Nat.{ℕ, _-_, _≤_, _<_}
 use native.Mathlib.Omega.{arith}

@@ -1,5 +1,4 @@
 -- `crc64::crc64` meets its contract. The loop's invariant: the register is the CRC of the first `i` bytes.
--- Assumes nothing.
 use mathlib.Core.Path.{_≡_, refl, sym, ap, _∙_}
 use Prim.Native.Nat.{ℕ, _-_, _≤_, _<_}
 use native.Mathlib.Omega.{arith}

@@ -1,5 +1,4 @@
 -- Bytes, parts of a list, equal lists, lists brought to a length.
--- ---- bytes
 use Prim.Native.Nat.{ℕ, zero, suc, _+_, _-_, _<_, _≤_}
 use mathlib.Core.Path.{_≡_, refl, sym, ap, ap₂, _∙_, subst, subst⁻¹}
 use mathlib.Core.Bool.{Bool, true, false, _&&_, false≢true, and-false}
@@ -12,6 +11,8 @@ use lib.ListN.{length, getD, take, drop, replicate, length-append, length-drop, 
 use lib.Seq.{take-nil, take-take, take-all, take-length, drop-drop, drop-cons, getD-drop, length-take-le}
 use borrow.Author.Tests.{eqb-true, eq-eqb}
 use Rattle.fields.specs.Bytes.{Bytes, part, same, sized}
+
+-- ---- bytes
 
 pub bytes-nil : Bytes []
 bytes-nil i = omega arith
@@ -64,7 +65,8 @@ rest-part n s = take-all (length s - n) (drop n s) (omega (arith, length-drop n 
 
 -- ---- equal lists
 
-pub same-at : (a b : List ℕ) (i : ℕ) → i < length a → i < length b → same (drop i a) (drop i b) ≡ (eqb (getD a i 0) (getD b i 0) && same (drop (i + 1) a) (drop (i + 1) b))
+pub same-at : (a b : List ℕ) (i : ℕ) → i < length a → i < length b
+    → same (drop i a) (drop i b) ≡ (eqb (getD a i 0) (getD b i 0) && same (drop (i + 1) a) (drop (i + 1) b))
 unfolding same
 same-at a b i ha hb =
     ap₂ same (drop-cons a i 0 ha) (drop-cons b i 0 hb)

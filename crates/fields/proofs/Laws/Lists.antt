@@ -1,5 +1,4 @@
 -- Tests and rules at each element of a list, and the bytes of its elements one after the other.
--- ---- a test at each element, as a loop makes it: what it is from place i on
 use Prim.Native.Nat.{ℕ, _+_, _≤_, _<_}
 use mathlib.Core.Path.{_≡_, refl, sym, ap, _∙_}
 use mathlib.Core.Bool.{Bool, true, false}
@@ -10,6 +9,8 @@ use lib.ListN.{length, getD, take, drop, length-append, take-append-drop, drop-o
 use lib.Seq.{take-suc, take-all, drop-cons}
 use Rattle.fields.specs.Lists.{all, Each, flat}
 use Rattle.fields.proofs.Laws.Checks.{and-split, and-join}
+
+-- ---- a test at each element, as a loop makes it: what it is from place i on
 
 module _ {A : Type 0} (p : A → Bool) where
   pub all-step : (xs : List A) (i : ℕ) (d : A) → i < length xs → p (getD xs i d) ≡ true → all p (drop i xs) ≡ all p (drop (i + 1) xs)
@@ -64,7 +65,8 @@ module _ {A : Type 0} (f : A → List ℕ) where
   pub flat-all : (xs : List A) (i : ℕ) → length xs ≤ i → flat f (take i xs) ≡ flat f xs
   flat-all xs i h = ap (flat f) (take-all i xs h)
 
-  pub length-flat-next : (xs : List A) (i : ℕ) (d : A) → i < length xs → length (flat f (take (i + 1) xs)) ≡ length (flat f (take i xs)) + length (f (getD xs i d))
+  pub length-flat-next : (xs : List A) (i : ℕ) (d : A) → i < length xs
+      → length (flat f (take (i + 1) xs)) ≡ length (flat f (take i xs)) + length (f (getD xs i d))
   length-flat-next xs i d h = ap length (flat-next xs i d h) ∙ length-append (flat f (take i xs)) (f (getD xs i d))
 
   pub length-flat-le : (xs : List A) (i : ℕ) → length (flat f (take i xs)) ≤ length (flat f xs)

@@ -1,5 +1,4 @@
 -- Runs of bytes stored into a list (`sets` of lib.Seq). A store past the end changes nothing.
--- a second run where the first ended
 use Prim.Native.Nat.{ℕ, zero, suc, min, _+_, _-_, _≤_, _<_}
 use mathlib.Core.Path.{_≡_, refl, sym, ap, _∙_}
 use mathlib.Core.List.{List, [], _∷_, _++_}
@@ -10,9 +9,12 @@ use native.Mathlib.Decide.{decLe}
 use lib.ListN.{replicate, length, getD, take, drop, set, take-append-drop, drop-of-length-le}
 use lib.Seq.{sets, length-sets, sets-eq, set-out, take-suc, length-take-le}
 use Rattle.fields.specs.Bytes.{sized}
+use Rattle.fields.specs.Lists.{flat}
 use Rattle.fields.specs.Layout.{join, Widths, stores}
+use Rattle.fields.proofs.Laws.Lists.{flat-next}
 use Rattle.fields.proofs.Laws.Bytes.{sized-zero, sized-cons, sized-nil}
 
+-- a second run where the first ended
 pub sets-append : (l : List ℕ) (i : ℕ) (xs ys : List ℕ) → sets l i (xs ++ ys) ≡ sets (sets l i xs) (i + length xs) ys
 sets-append l i [] ys = ap (λ (k : ℕ). sets l k ys) (sym (add-zero i))
 sets-append l i (x ∷ xs) ys =
@@ -38,6 +40,14 @@ stores-join out at (x ∷ xs) (w ∷ ws) h =
     stores-join (sets out at x) (at + w) xs ws (h .1)
     ∙ ap (λ (n : ℕ). sets (sets out at x) (at + n) (join xs)) (sym (h .0))
     ∙ sym (sets-append out at x (join xs))
+
+-- ---- the loop that writes elements one after the other: one more
+
+module _ {A : Type 0} (f : A → List ℕ) where
+  pub sets-flat-next : (out : List ℕ) (at : ℕ) (xs : List A) (i : ℕ) (d : A) → i < length xs
+      → sets (sets out at (flat f (take i xs))) (at + length (flat f (take i xs))) (f (getD xs i d)) ≡ sets out at (flat f (take (i + 1) xs))
+  sets-flat-next out at xs i d h =
+      sym (sets-append out at (flat f (take i xs)) (f (getD xs i d))) ∙ ap (sets out at) (sym (flat-next f xs i d h))
 
 -- ---- the loop that copies
 

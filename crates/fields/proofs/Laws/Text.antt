@@ -1,9 +1,8 @@
 -- Texts and text fields. Callers cite these laws and never open what a field's zeros are.
--- ---- texts
 use Prim.Native.Nat.{ℕ, zero, suc, _+_, _-_, _<_, _≤_}
-use mathlib.Core.Path.{_≡_, refl, sym, ap, ap₂, _∙_}
+use mathlib.Core.Path.{_≡_, refl, sym, ap, ap₂, _∙_, subst⁻¹}
 use mathlib.Core.Bool.{Bool, true, false, cond, _&&_, and-false}
-use mathlib.Core.List.{List, [], _∷_}
+use mathlib.Core.List.{List, [], _∷_, _++_}
 use native.Mathlib.Omega.{arith}
 use native.Mathlib.Numerals.{add-one}
 use lib.Dec.{eqb, ltb}
@@ -13,9 +12,11 @@ use borrow.Author.Tests.{eqb-true, eqb-false, leb-true, ltb-true, lt-ltb, le-ltb
 use Rattle.fields.specs.Bytes.{Bytes, part, sized}
 use Rattle.fields.specs.Lists.{all, Each}
 use Rattle.fields.specs.Text.{textByte, isText, Text, textOf, pastText, zeroByte, allZero, textOk, textClean, fieldOk, textBytes, TextFields}
-use Rattle.fields.proofs.Laws.Bytes.{bytes-nil, bytes-cons, bytes-sized, length-part, length-sized, sized-zero, sized-cons, sized-nil}
+use Rattle.fields.proofs.Laws.Bytes.{bytes-nil, bytes-cons, bytes-take, bytes-drop, bytes-sized, length-part, length-sized, sized-zero, sized-cons, sized-nil}
 use Rattle.fields.proofs.Laws.Checks.{and-split, and-join}
 use Rattle.fields.proofs.Laws.Lists.{all-each, each-all}
+
+-- ---- texts
 
 byte-text : (b : ℕ) → textByte b ≡ true → (0 < b) × (b < 128)
 byte-text b h = let k = and-split (ltb 0 b) (ltb b 128) h in (ltb-true 0 b (k .0), ltb-true b 128 (k .1))
@@ -93,6 +94,35 @@ past-drop s = past-suc s ∙ ap (λ (n : ℕ). drop n s) (sym (add-one (length (
 
 pub length-textOf : (s : List ℕ) → length (textOf s) ≤ length s
 length-textOf s = omega (arith, ap length (text-take s), length-take (length (textOf s)) s)
+
+pub bytes-textOf : (s : List ℕ) → Bytes s → Bytes (textOf s)
+bytes-textOf s h = subst⁻¹ Bytes (text-take s) (bytes-take (length (textOf s)) s h)
+
+pub bytes-pastText : (s : List ℕ) → Bytes s → Bytes (pastText s)
+bytes-pastText s h = subst⁻¹ Bytes (past-drop s) (bytes-drop (length (textOf s) + 1) s h)
+
+-- bytes with a 0 among them are a text, a 0 and the rest
+pub text-split : (s : List ℕ) → length (textOf s) < length s → textOf s ++ (0 ∷ pastText s) ≡ s
+text-split [] h = absurd (omega arith)
+text-split (b ∷ bs) h = go (eqb b 0) refl (text-split bs)
+  where
+    go : (t : Bool) → eqb b 0 ≡ t → (length (textOf bs) < length bs → textOf bs ++ (0 ∷ pastText bs) ≡ bs) → textOf (b ∷ bs) ++ (0 ∷ pastText (b ∷ bs)) ≡ b ∷ bs
+    go true e ih =
+        let z : b ≡ 0 = eqb-true b 0 e in
+        let k = text-zero b bs z in
+        ap₂ (λ (x y : List ℕ). x ++ (0 ∷ y)) (k .0) (k .1) ∙ ap (λ (x : ℕ). x ∷ bs) (sym z)
+    go false e ih =
+        let k = text-more b bs (eqb-false b 0 e) in
+        let l : length (textOf (b ∷ bs)) ≡ suc (length (textOf bs)) = ap length (k .0) in
+        ap₂ (λ (x y : List ℕ). x ++ (0 ∷ y)) (k .0) (k .1) ∙ ap {B = List ℕ} (λ r. b ∷ r) (ih (omega arith))
+
+-- and a text, a 0 and a rest are read as that text and that rest
+pub text-ended : (t rest : List ℕ) → Text t → (textOf (t ++ (0 ∷ rest)) ≡ t) × (pastText (t ++ (0 ∷ rest)) ≡ rest)
+text-ended [] rest h = text-zero 0 rest refl
+text-ended (b ∷ t) rest h =
+    let k = text-more b (t ++ (0 ∷ rest)) (λ e. omega (arith, e, h .0 .0)) in
+    let ih = text-ended t rest (h .1) in
+    (k .0 ∙ ap {B = List ℕ} (λ r. b ∷ r) (ih .0), k .1 ∙ ih .1)
 
 -- the loop that looks for the first 0: how many bytes of text follow from place i on
 pub text-end : (s : List ℕ) (i : ℕ) → length s ≤ i → length (textOf (drop i s)) ≡ 0

@@ -1,3 +1,4 @@
+-- `fields::answer` meets its contract: the law of each case.
 use mathlib.Core.Path.{sym}
 use Rattle.fields.proofs.Laws.Answer.{written-wrote, written-refused}
 use Rattle.fields.proofs.answer.Statement.{statement}

@@ -1,3 +1,4 @@
+-- `fields::room_fault` meets its contract: the law of each case.
 use mathlib.Core.Path.{sym}
 use Rattle.fields.proofs.Laws.Answer.{room-enough, room-short}
 use Rattle.fields.proofs.room_fault.Statement.{statement}

@@ -1,5 +1,5 @@
 -- `vectors_crc::print_crc` is safe and ends. The loop's invariant: `i` is within the line, which keeps its length.
--- The measure is the number of digits that are left. Assumes nothing.
+-- The measure is the number of digits that are left.
 use Prim.Native.Nat.{_≤_}
 use mathlib.Core.Path.{_≡_}
 use native.Mathlib.Omega.{arith}

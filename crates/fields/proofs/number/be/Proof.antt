@@ -1,3 +1,4 @@
+-- `fields::number::be` meets its contract. The loop's invariant: `v` is the number of the first `i` bytes, below 256 to the power of `i`.
 use Prim.Native.Nat.{ℕ, _≤_, _<_, _*_, _+_, _-_, _^_}
 use mathlib.Core.Path.{_≡_, refl, ap, sym, _∙_}
 use native.Mathlib.Omega.{arith}

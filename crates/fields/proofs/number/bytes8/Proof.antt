@@ -1,3 +1,4 @@
+-- `fields::number::bytes8` meets its contract: each byte is a digit to the base 256.
 use native.Mathlib.Nat.{div-one}
 use borrow.Author.Needs.{needs}
 use Rattle.fields.specs.Numbers.{beBytes}

@@ -1,3 +1,4 @@
+-- `fields::number::put_be` meets its contract: the last n of eight digits.
 use Prim.Native.Nat.{ℕ, _-_}
 use mathlib.Core.List.{List}
 use mathlib.Core.Path.{ap, _∙_}

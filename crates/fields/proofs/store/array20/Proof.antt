@@ -1,3 +1,4 @@
+-- `fields::store::array20` meets its contract: a copy into zeros.
 use mathlib.Core.Path.{_∙_}
 use borrow.Author.Needs.{needs}
 use Rattle.fields.proofs.Laws.Stores.{sets-zeros}

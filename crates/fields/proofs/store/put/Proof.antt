@@ -1,22 +1,25 @@
+-- `fields::store::put` meets its contract. The loop's invariant: the first `i` bytes are stored.
 use Prim.Native.Nat.{ℕ, _≤_, _-_, _+_}
 use mathlib.Core.List.{List}
 use mathlib.Core.Path.{_≡_, ap, sym, _∙_}
 use native.Mathlib.Omega.{arith}
-use lib.ListN.{length, getD, take, set}
-use lib.Seq.{sets, length-sets}
+use lib.ListN.{length, getD, take, set, length-set}
+use lib.Seq.{sets}
 use borrow.Author.Needs.{needs}
 use Rattle.fields.proofs.Laws.Stores.{put-next, put-end, sets-past}
 use Rattle.fields.proofs.store.put.Statement.{statement}
 use Rattle.fields.proofs.store.put.Tie as tie
 
 abbrev Inv-loop : tie.InvT-loop
-Inv-loop src at out₀ end i₀ out i = (i ≤ end) × (out ≡ sets out₀ at (take i src))
+Inv-loop src at out₀ end i₀ out i = (i ≤ end) × (length out ≡ length out₀) × (out ≡ sets out₀ at (take i src))
 
 abbrev μ-loop : tie.MeasureT-loop
 μ-loop src at out₀ end i₀ out i = end - i
 
 returns : tie.Need-returns Inv-loop μ-loop
-returns c = sym (sets-past (c .before .before .before .args .out .now) (c .before .before .before .args .at) (c .before .before .before .args .src .now) (c .if1 .taken))
+returns c =
+    let a = c .before .before .before .args in
+    sym (sets-past (a .out .now) (a .at) (a .src .now) (c .if1 .taken))
 
 sub-lesser : tie.Need-sub-lesser Inv-loop μ-loop
 sub-lesser c = search needs
@@ -34,7 +37,7 @@ add-out : tie.Need-add-out Inv-loop μ-loop
 add-out c = search needs
 
 slice-write-out : tie.Need-slice-write-out Inv-loop μ-loop
-slice-write-out c = omega (arith, ap length (c .before .before .loop .inv .1), length-sets (c .before .before .before .before .before .before .before .args .out .now) (c .before .before .before .before .before .before .before .args .at) (take (c .before .before .loop .i) (c .before .before .before .before .before .before .before .args .src .now)))
+slice-write-out c = search needs
 
 add-i : tie.Need-add-i Inv-loop μ-loop
 add-i c = search needs
@@ -43,20 +46,23 @@ loop-less : tie.Need-loop-less Inv-loop μ-loop
 loop-less c = search needs
 
 loop-again : tie.Need-loop-again Inv-loop μ-loop
-loop-again c = let l = c .before .before .loop in
+loop-again c =
+    let l = c .before .before .loop in
     let a = c .before .before .before .before .before .before .before .args in (
       omega arith,
-      ap (λ (r : List ℕ). set r (a .at + l .i) (getD (a .src .now) (l .i) 0)) (l .inv .1)
+      length-set (l .out) (a .at + l .i) (getD (a .src .now) (l .i) 0) ∙ l .inv .1,
+      ap (λ (r : List ℕ). set r (a .at + l .i) (getD (a .src .now) (l .i) 0)) (l .inv .2)
           ∙ put-next (a .out .now) (a .src .now) (a .at) (l .i) (omega arith),
     )
 
 same-length : tie.Need-same-length Inv-loop μ-loop
-same-length c = ap length (c .before .loop .inv .1) ∙ length-sets (c .before .before .before .before .before .before .args .out .now) (c .before .before .before .before .before .before .args .at) (take (c .before .loop .i) (c .before .before .before .before .before .before .args .src .now))
+same-length c = c .before .loop .inv .1
 
 returns-2 : tie.Need-returns-2 Inv-loop μ-loop
-returns-2 c = let l = c .before .loop in
+returns-2 c =
+    let l = c .before .loop in
     let a = c .before .before .before .before .before .before .args in
-    l .inv .1 ∙ put-end (a .out .now) (a .src .now) (a .at) (l .i) (omega arith) (omega arith)
+    l .inv .2 ∙ put-end (a .out .now) (a .src .now) (a .at) (l .i) (omega arith) (omega arith)
 
 pub put-spec : {M : Type 1} → statement M
 put-spec =

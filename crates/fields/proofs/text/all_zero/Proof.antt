@@ -1,3 +1,4 @@
+-- `fields::text::all_zero` meets its contract. The loop's invariant: the answer is that for the bytes from `i` on.
 use Prim.Native.Nat.{_-_}
 use mathlib.Core.Path.{_≡_, refl, sym, _∙_}
 use native.Mathlib.Omega.{arith}
@@ -23,7 +24,8 @@ shared-slice-read-if1 c = search needs
 
 returns : tie.Need-returns Inv-loop μ-loop
 unfolding allZero
-returns c = let s = c .before .before .before .before .args .s .now in
+returns c =
+    let s = c .before .before .before .before .args .s .now in
     let l = c .before .before .before .loop in
     sym (l .inv ∙ all-stop zeroByte s (l .i) 0 (omega arith) (lt-leb (getD s (l .i) 0) _ (c .if1 .taken)))
 
@@ -35,13 +37,15 @@ loop-less c = search needs
 
 loop-again : tie.Need-loop-again Inv-loop μ-loop
 unfolding allZero
-loop-again c = let s = c .before .before .before .before .args .s .now in
+loop-again c =
+    let s = c .before .before .before .before .args .s .now in
     let l = c .before .before .before .loop in
     l .inv ∙ all-step zeroByte s (l .i) 0 (omega arith) (le-leb (getD s (l .i) 0) _ (c .if1 .left))
 
 returns-2 : tie.Need-returns-2 Inv-loop μ-loop
 unfolding allZero
-returns-2 c = let s = c .before .before .args .s .now in
+returns-2 c =
+    let s = c .before .before .args .s .now in
     let l = c .before .loop in
     sym (l .inv ∙ all-end zeroByte s (l .i) (omega arith))
 

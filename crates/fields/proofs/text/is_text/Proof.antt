@@ -1,3 +1,4 @@
+-- `fields::text::is_text` meets its contract. The loop's invariant: the answer is that for the bytes from `i` on.
 use Prim.Native.Nat.{_-_}
 use mathlib.Core.Path.{_≡_, refl, sym, _∙_}
 use native.Mathlib.Omega.{arith}
@@ -23,13 +24,15 @@ shared-slice-read-b c = search needs
 
 returns : tie.Need-returns Inv-loop μ-loop
 unfolding isText
-returns c = let t = c .before .before .before .before .args .t .now in
+returns c =
+    let t = c .before .before .before .before .args .t .now in
     let l = c .before .before .before .loop in
     sym (l .inv ∙ all-stop textByte t (l .i) 0 (omega arith) (text-byte-low (getD t (l .i) 0) (c .if1 .taken)))
 
 returns-2 : tie.Need-returns-2 Inv-loop μ-loop
 unfolding isText
-returns-2 c = let t = c .before .before .before .before .before .args .t .now in
+returns-2 c =
+    let t = c .before .before .before .before .before .args .t .now in
     let l = c .before .before .before .before .loop in
     sym (l .inv ∙ all-stop textByte t (l .i) 0 (omega arith) (text-byte-high (getD t (l .i) 0) (c .if2 .taken)))
 
@@ -41,14 +44,16 @@ loop-less c = search needs
 
 loop-again : tie.Need-loop-again Inv-loop μ-loop
 unfolding isText
-loop-again c = let t = c .before .before .before .before .before .args .t .now in
+loop-again c =
+    let t = c .before .before .before .before .before .args .t .now in
     let l = c .before .before .before .before .loop in
     let p = c .before .if1 .left in
     l .inv ∙ all-step textByte t (l .i) 0 (omega arith) (text-byte (getD t (l .i) 0) (omega arith, c .if2 .left))
 
 returns-3 : tie.Need-returns-3 Inv-loop μ-loop
 unfolding isText
-returns-3 c = let t = c .before .before .args .t .now in
+returns-3 c =
+    let t = c .before .before .args .t .now in
     let l = c .before .loop in
     sym (l .inv ∙ all-end textByte t (l .i) (omega arith))
 

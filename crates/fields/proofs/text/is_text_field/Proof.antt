@@ -1,3 +1,4 @@
+-- `fields::text::is_text_field` meets its contract: the two halves of the rule.
 use mathlib.Core.Bool.{Bool, _&&_}
 use mathlib.Core.Path.{ap, sym, _∙_}
 use borrow.Author.Tests.{not-true, not-false}
@@ -14,7 +15,8 @@ is-text-requires c κs = search needs
 
 returns : tie.Need-returns
 unfolding fieldOk textOk
-returns c = let f = c .before .before .before .before .args .f .now in
+returns c =
+    let f = c .before .before .before .before .args .f .now in
     let e = c .before .is-text .ensures ∙ ap isText (c .before .before .text-of .ensures) in
     ap (λ (x : Bool). x && textClean f) (sym (not-true (c .before .is-text .result) (c .if1 .taken)) ∙ e)
 
@@ -26,7 +28,8 @@ all-zero-requires c κs = search needs
 
 returns-2 : tie.Need-returns-2
 unfolding fieldOk textOk textClean
-returns-2 c = let f = c .before .before .before .before .before .before .args .f .now in
+returns-2 c =
+    let f = c .before .before .before .before .before .before .args .f .now in
     let e = c .before .before .before .is-text .ensures ∙ ap isText (c .before .before .before .before .text-of .ensures) in
     let z = c .all-zero .ensures ∙ ap allZero (c .before .past-text .ensures) in
     z ∙ ap (λ (x : Bool). x && allZero (pastText f)) (sym (not-false (c .before .before .before .is-text .result) (c .before .before .if1 .left)) ∙ e)

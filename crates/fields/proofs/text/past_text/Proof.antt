@@ -1,3 +1,4 @@
+-- `fields::text::past_text` meets its contract.
 use Prim.Native.Nat.{ℕ, _+_}
 use mathlib.Core.Path.{ap, sym, _∙_}
 use native.Mathlib.Omega.{arith}
@@ -17,7 +18,8 @@ rest-requires : tie.Need-rest-requires
 rest-requires c κs = search needs
 
 returns : tie.Need-returns
-returns c = let s = c .before .before .before .args .s .now in
+returns c =
+    let s = c .before .before .before .args .s .now in
     c .rest .ensures ∙ ap (λ (n : ℕ). drop (n + 1) s) (c .before .text-len .ensures) ∙ sym (past-drop s)
 
 pub past-text-spec : {M : Type 1} → statement M

@@ -1,3 +1,4 @@
+-- `fields::text::put_text12` meets its contract.
 use borrow.Author.Needs.{needs}
 use Rattle.fields.specs.Text.{textBytes}
 use Rattle.fields.proofs.text.put_text12.Statement.{statement}

@@ -1,3 +1,4 @@
+-- `fields::text::text_len` meets its contract. The loop's invariant: the length is `i` and that of the text from `i` on.
 use Prim.Native.Nat.{_-_, _+_}
 use mathlib.Core.Path.{_≡_}
 use native.Mathlib.Omega.{arith}
@@ -21,7 +22,8 @@ shared-slice-read-if1 : tie.Need-shared-slice-read-if1 Inv-loop μ-loop
 shared-slice-read-if1 c = search needs
 
 returns : tie.Need-returns Inv-loop μ-loop
-returns c = let s = c .before .before .before .before .args .s .now in
+returns c =
+    let s = c .before .before .before .before .args .s .now in
     let l = c .before .before .before .loop in
     omega (arith, l .inv, text-stop s (l .i) (omega arith) (c .if1 .taken))
 
@@ -32,12 +34,14 @@ loop-less : tie.Need-loop-less Inv-loop μ-loop
 loop-less c = search needs
 
 loop-again : tie.Need-loop-again Inv-loop μ-loop
-loop-again c = let s = c .before .before .before .before .args .s .now in
+loop-again c =
+    let s = c .before .before .before .before .args .s .now in
     let l = c .before .before .before .loop in
     omega (arith, l .inv, text-step s (l .i) (omega arith) (c .if1 .left))
 
 returns-2 : tie.Need-returns-2 Inv-loop μ-loop
-returns-2 c = let s = c .before .before .args .s .now in
+returns-2 c =
+    let s = c .before .before .args .s .now in
     let l = c .before .loop in
     omega (arith, l .inv, text-end s (l .i) (omega arith))
 

@@ -1,3 +1,4 @@
+-- `fields::text::text_of` meets its contract.
 use Prim.Native.Nat.{ℕ}
 use mathlib.Core.Path.{ap, sym, _∙_}
 use lib.ListN.{take}
@@ -13,7 +14,8 @@ first-requires : tie.Need-first-requires
 first-requires c κs = search needs
 
 returns : tie.Need-returns
-returns c = let s = c .before .before .before .args .s .now in
+returns c =
+    let s = c .before .before .before .args .s .now in
     c .first .ensures ∙ ap (λ (n : ℕ). take n s) (c .before .text-len .ensures) ∙ sym (text-take s)
 
 pub text-of-spec : {M : Type 1} → statement M

@@ -1,10 +1,11 @@
+-- `fields::slice::rest` meets its contract.
 use mathlib.Core.Path.{sym}
 use native.Mathlib.Omega.{arith}
 use lib.ListN.{drop-of-length-le}
 use borrow.Author.Needs.{needs}
 use Rattle.fields.proofs.Laws.Bytes.{rest-part}
-use Rattle.fields.proofs.part.rest.Statement.{statement}
-use Rattle.fields.proofs.part.rest.Tie as tie
+use Rattle.fields.proofs.slice.rest.Statement.{statement}
+use Rattle.fields.proofs.slice.rest.Tie as tie
 
 sub-result : tie.Need-sub-result
 sub-result c = search needs

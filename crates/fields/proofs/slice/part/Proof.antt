@@ -1,8 +1,9 @@
+-- `fields::slice::part` meets its contract.
 use mathlib.Core.Path.{ap, _∙_}
 use lib.ListN.{take}
 use borrow.Author.Needs.{needs}
-use Rattle.fields.proofs.part.part.Statement.{statement}
-use Rattle.fields.proofs.part.part.Tie as tie
+use Rattle.fields.proofs.slice.part.Statement.{statement}
+use Rattle.fields.proofs.slice.part.Tie as tie
 
 rest-requires : tie.Need-rest-requires
 rest-requires c κs = search needs

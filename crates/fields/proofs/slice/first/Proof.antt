@@ -1,9 +1,10 @@
+-- `fields::slice::first` meets its contract.
 use mathlib.Core.Path.{sym}
 use native.Mathlib.Omega.{arith}
 use lib.Seq.{take-all, length-take-le}
 use borrow.Author.Needs.{needs}
-use Rattle.fields.proofs.part.first.Statement.{statement}
-use Rattle.fields.proofs.part.first.Tie as tie
+use Rattle.fields.proofs.slice.first.Statement.{statement}
+use Rattle.fields.proofs.slice.first.Tie as tie
 
 slice-aggregate-result : tie.Need-slice-aggregate-result
 slice-aggregate-result c = sym (length-take-le (c .before .before .args .n) (c .before .before .args .s .now) (c .before .if1 .taken))
