@@ -7,6 +7,7 @@ use lib.Seq.{sets}
 use Rattle.fields.specs.Bytes.{part}
 use Rattle.fields.specs.Numbers.{beVal, beBytes}
 
+-- the sum of the widths
 abbrev pub total : List ℕ → ℕ
 total [] = 0
 total (w ∷ ws) = w + total ws
@@ -52,3 +53,13 @@ NumbersFit [] [] = Unit {0}
 NumbersFit [] (v ∷ vs) = ⊥
 NumbersFit (w ∷ ws) [] = ⊥
 NumbersFit (w ∷ ws) (v ∷ vs) = (v < 256 ^ w) × NumbersFit ws vs
+
+-- ---- what is proved of them, for any number of fields of any widths: joined fields are cut into themselves wherever they stand, cut fields
+-- join to the bytes that were cut, and the stores of the fields are one store of the joined bytes
+
+pub record Layouts : Type 0 where
+  pub read-back : (before : List ℕ) (fields : List (List ℕ)) (widths after : List ℕ) → Widths fields widths
+      → cut (length before) widths (before ++ (join fields ++ after)) ≡ fields
+  pub written-back : (at : ℕ) (widths s : List ℕ) → join (cut at widths s) ≡ part (total widths) at s
+  pub stored : (out : List ℕ) (at : ℕ) (fields : List (List ℕ)) (widths : List ℕ) → Widths fields widths
+      → stores out at fields widths ≡ sets out at (join fields)

@@ -12,10 +12,11 @@ use Rattle.fields.specs.Lists.{all, Each}
 abbrev pub textByte : ℕ → Bool
 textByte b = ltb 0 b && ltb b 128
 
--- is it a text: bytes 1 to 127 and nothing else? So are names and keys.
+-- is it a text: bytes 1 to 127 and nothing else? Names and keys are texts
 unfoldable pub isText : List ℕ → Bool
 isText t = all textByte t
 
+-- the rule that this tests
 abbrev pub Text : List ℕ → Type 0
 Text t = Each (λ b. (0 < b) × (b < 128)) t
 

@@ -6,9 +6,11 @@ use mathlib.Core.List.{List, _++_}
 use native.Mathlib.Omega.{arith}
 use lib.ListN.{length, drop}
 use lib.Seq.{sets}
-use borrow.Author.Tests.{eq-eqb, ne-eqb, le-leb, lt-leb}
+use lib.Dec.{leb}
+use borrow.Author.Tests.{eq-eqb, ne-eqb, le-leb, lt-leb, leb-true}
 use Rattle.fields.specs.declared.Written.the-variants.{Wrote, Refused}
 use Rattle.fields.specs.Answer.{writtenNumber, writtenOf, roomFault, outAfter}
+use Rattle.fields.proofs.Laws.Checks.{cond-pass}
 use Rattle.fields.proofs.Laws.Stores.{sets-front}
 
 pub written-wrote : (fault n : ℕ) → fault ≡ 0 → writtenOf fault n ≡ Wrote n
@@ -31,6 +33,10 @@ room-enough n room h = ap (λ (t : Bool). cond t 0 20) (le-leb n room h)
 pub room-short : (n room : ℕ) → room < n → roomFault n room ≡ 20
 unfolding roomFault
 room-short n room h = ap (λ (t : Bool). cond t 0 20) (lt-leb n room h)
+
+pub room-fits : (n room : ℕ) → roomFault n room ≡ 0 → n ≤ room
+unfolding roomFault
+room-fits n room h = leb-true n room (cond-pass (leb n room) 19 0 h .0)
 
 pub out-wrote : (fault : ℕ) (bytes out : List ℕ) → fault ≡ 0 → outAfter fault bytes out ≡ bytes ++ drop (length bytes) out
 unfolding outAfter

@@ -10,7 +10,7 @@ use lib.Dec.{lit<}
 use lib.ListN.{length, take, drop, getD, length-append, length-take, drop-of-length-le}
 use lib.Seq.{take-suc, take-nil, take-all}
 use Rattle.fields.specs.Bytes.{Bytes, part}
-use Rattle.fields.specs.Numbers.{beVal, beBytes, beAt}
+use Rattle.fields.specs.Numbers.{beVal, beBytes, beAt, BigEndian}
 use Rattle.fields.proofs.Laws.Bytes.{bytes-nil, bytes-cons, bytes-tail, bytes-part, length-part}
 
 pow-pos : (n : ℕ) → 0 < 256 ^ n
@@ -88,6 +88,9 @@ beVal-mod (suc n) v =
 -- the number that a number's bytes spell is that number, where it fits
 pub beVal-beBytes : (n v : ℕ) → v < 256 ^ n → beVal (beBytes n v) ≡ v
 beVal-beBytes n v h = beVal-mod n v ∙ mod-eq-of-lt h
+
+pub big-endian : BigEndian
+big-endian = record { width = length-beBytes; read-back = beVal-beBytes; written-back = beBytes-beVal }
 
 -- ---- a number at a place
 

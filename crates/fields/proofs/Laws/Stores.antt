@@ -10,7 +10,8 @@ use lib.ListN.{replicate, length, getD, take, drop, set, take-append-drop, drop-
 use lib.Seq.{sets, length-sets, sets-eq, set-out, take-suc, length-take-le}
 use Rattle.fields.specs.Bytes.{sized}
 use Rattle.fields.specs.Lists.{flat}
-use Rattle.fields.specs.Layout.{join, Widths, stores}
+use Rattle.fields.specs.Layout.{join, Widths, stores, Layouts}
+use Rattle.fields.proofs.Laws.Layout.{join-cut, cut-join}
 use Rattle.fields.proofs.Laws.Lists.{flat-next}
 use Rattle.fields.proofs.Laws.Bytes.{sized-zero, sized-cons, sized-nil}
 
@@ -40,6 +41,15 @@ stores-join out at (x ∷ xs) (w ∷ ws) h =
     stores-join (sets out at x) (at + w) xs ws (h .1)
     ∙ ap (λ (n : ℕ). sets (sets out at x) (at + n) (join xs)) (sym (h .0))
     ∙ sym (sets-append out at x (join xs))
+
+-- the laws of layouts, as they are stated
+pub layouts : Layouts
+layouts =
+    record {
+      read-back = λ before fields widths after h. cut-join before fields widths after (length before) refl h;
+      written-back = join-cut;
+      stored = stores-join;
+    }
 
 -- ---- the loop that writes elements one after the other: one more
 
