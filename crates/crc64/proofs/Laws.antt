@@ -1,13 +1,13 @@
 -- Laws of the CRC's definitions, for the proofs of this crate and of those that cite the CRC. In them r is a register, b a bit,
 -- x a byte, u, v and bs lists of bits, and s and t bodies.
+use Prim.Native.Nat.{ℕ, zero, suc, _+_, _*_, _/_, _%_, _^_, _<_}
 use mathlib.Core.Path.{_≡_, refl, sym, ap, _∙_}
 use mathlib.Core.Bool.{Bool, true, false, cond}
 use mathlib.Core.List.{List, [], _∷_, _++_, append-assoc}
-use Prim.Native.Nat.{ℕ, zero, suc, _+_, _*_, _/_, _%_, _^_, _<_}
 use native.Mathlib.Nat.{mod-lt}
 use native.Mathlib.Numerals.{add-one}
 use native.Mathlib.Omega.{arith}
-use lib.Bits.{bitXor, xor-lt, xor-zero-r}
+use lib.Bits.{bitXor, xor-lt}
 use lib.Dec.{eqb, lit<}
 use lib.ListN.{length, take, getD}
 use lib.Pow.{pow-pos}
@@ -24,31 +24,6 @@ step-same r b e = rw (eq-eqb (r / 2 ^ 63) b e)
 pub step-other : (r b : ℕ) → (r / 2 ^ 63 ≡ b → ⊥) → bitStep r b ≡ bitXor (r * 2 % 2 ^ 64) polynomial
 unfolding bitStep
 step-other r b n = rw (ne-eqb (r / 2 ^ 63) b n)
-
--- what is added for a bit: the polynomial for 1, nothing for 0
-abbrev pub feedback : ℕ → ℕ
-feedback zero = 0
-feedback (suc n) = polynomial
-
-no-bit : (n : ℕ) → suc (suc n) < 2 → ⊥
-no-bit n h = omega arith
-
-added : (t b s : ℕ) → t < 2 → b < 2 → cond (eqb t b) s (bitXor s polynomial) ≡ bitXor s (feedback (bitXor t b))
-added zero zero s ht hb = sym (xor-zero-r s)
-added zero (suc zero) s ht hb = refl
-added zero (suc (suc b)) s ht hb = absurd (no-bit b hb)
-added (suc zero) zero s ht hb = refl
-added (suc zero) (suc zero) s ht hb = sym (xor-zero-r s)
-added (suc zero) (suc (suc b)) s ht hb = absurd (no-bit b hb)
-added (suc (suc t)) b s ht hb = absurd (no-bit t ht)
-
-pub top-lt : (r : ℕ) → r < 2 ^ 64 → r / 2 ^ 63 < 2
-top-lt r h = omega arith
-
--- a step without its test: the form in which it is linear
-pub step-form : (r b : ℕ) → r < 2 ^ 64 → b < 2 → bitStep r b ≡ bitXor (r * 2 % 2 ^ 64) (feedback (bitXor (r / 2 ^ 63) b))
-unfolding bitStep
-step-form r b hr hb = added (r / 2 ^ 63) b (r * 2 % 2 ^ 64) (top-lt r hr) hb
 
 -- ---- bounds: the register keeps to 64 bits
 

@@ -25,6 +25,6 @@ writtenOf fault n = cond (eqb fault 0) (Wrote n) (Refused fault)
 unfoldable pub roomFault : ℕ → ℕ → ℕ
 roomFault n room = cond (leb n room) 0 20
 
--- the buffer after it: these bytes and what stood behind them, or all as it was
+-- the buffer that such a writer leaves: the bytes and what stood behind them, or all as it was
 unfoldable pub outAfter : ℕ → List ℕ → List ℕ → List ℕ
 outAfter fault bytes out = cond (eqb fault 0) (bytes ++ drop (length bytes) out) out

@@ -4,6 +4,7 @@ ghost use Prim.Native.Nat.{_≤_, _<_, _^_};
 ghost use lib.Seq.{sets};
 ghost use Rattle.fields.specs.Numbers.{beAt, beBytes};
 
+// The cast as a call: whoever reads a byte through it need not show that the byte fits.
 fn wide(x: u8) -> u64
     ensures { λ r. ⌜ r ≡ x ⌝ }
 {
@@ -51,6 +52,7 @@ pub fn be64(s: &[u8], at: usize) -> u64
     be(s, at, 8)
 }
 
+// The eight digits of v to the base 256.
 fn bytes8(v: u64) -> [u8; 8]
     ensures { λ r. ⌜ r ≡ beBytes 8 v ⌝ }
 {

@@ -1,14 +1,7 @@
 // Bytes written into a lent buffer, or copied into an array.
 ghost use mathlib.Core.Path.{_≡_};
-ghost use Prim.Native.Nat.{min};
 ghost use lib.Seq.{sets};
 ghost use Rattle.fields.specs.Bytes.{sized};
-
-fn lesser(a: usize, b: usize) -> usize
-    ensures { λ r. ⌜ r ≡ min a b ⌝ }
-{
-    if a < b { a } else { b }
-}
 
 // Writes the bytes of src from a place on. What does not fit is left out.
 pub fn put(src: &[u8], at: usize, out: &mut [u8])
@@ -17,10 +10,10 @@ pub fn put(src: &[u8], at: usize, out: &mut [u8])
     if out.len() <= at {
         return;
     }
-    let end = lesser(src.len(), out.len() - at);
+    let t = crate::slice::first(src, out.len() - at);
     let mut i = 0;
-    while i < end {
-        out[at + i] = src[i];
+    while i < t.len() {
+        out[at + i] = t[i];
         i += 1;
     }
 }

@@ -2,13 +2,13 @@
 use Prim.Native.Nat.{ℕ, zero, suc, _+_, _-_, _<_, _≤_}
 use mathlib.Core.Path.{_≡_, refl, sym, ap, ap₂, _∙_, subst, subst⁻¹}
 use mathlib.Core.Bool.{Bool, true, false, _&&_, false≢true, and-false}
-use mathlib.Core.List.{List, [], _∷_, _++_, append-nil}
+use mathlib.Core.List.{List, [], _∷_, _++_}
 use native.Mathlib.Omega.{arith}
-use native.Mathlib.Nat.{sub-zero, zero-sub, sub-self, suc-sub-suc}
+use native.Mathlib.Nat.{sub-zero, zero-sub, suc-sub-suc}
 use native.Mathlib.Numerals.{add-one}
 use lib.Dec.{eqb}
 use lib.ListN.{length, getD, take, drop, replicate, length-append, length-drop, length-take, length-replicate, drop-of-length-le}
-use lib.Seq.{take-nil, take-take, take-all, take-length, drop-drop, drop-cons, getD-drop, length-take-le}
+use lib.Seq.{take-nil, take-take, take-all, drop-drop, drop-cons, getD-drop, length-take-le}
 use borrow.Author.Tests.{eqb-true, eq-eqb}
 use Rattle.fields.specs.Bytes.{Bytes, part, same, sized}
 
@@ -121,10 +121,6 @@ sized-nil w = ap₂ (λ (x y : List ℕ). x ++ y) (take-nil w) (ap (λ (n : ℕ)
 pub sized-fits : (w : ℕ) (s : List ℕ) → length s ≤ w → sized w s ≡ s ++ replicate (w - length s) 0
 unfolding sized
 sized-fits w s h = ap (λ (x : List ℕ). x ++ replicate (w - length s) 0) (take-all w s h)
-
-pub sized-same : (s : List ℕ) → sized (length s) s ≡ s
-unfolding sized
-sized-same s = ap₂ (λ (x : List ℕ) (n : ℕ). x ++ replicate n 0) (take-length s) (sub-self (length s)) ∙ append-nil s
 
 pub bytes-sized : (w : ℕ) (s : List ℕ) → Bytes s → Bytes (sized w s)
 unfolding sized

@@ -1,5 +1,5 @@
 -- Runs of bytes stored into a list (`sets` of lib.Seq). A store past the end changes nothing.
-use Prim.Native.Nat.{ℕ, zero, suc, min, _+_, _-_, _≤_, _<_}
+use Prim.Native.Nat.{ℕ, zero, suc, _+_, _-_, _≤_, _<_}
 use mathlib.Core.Path.{_≡_, refl, sym, ap, _∙_}
 use mathlib.Core.List.{List, [], _∷_, _++_}
 use native.Mathlib.Omega.{arith}
@@ -69,18 +69,18 @@ put-next l src at i h =
     ∙ ap (λ (n : ℕ). set (sets l at (take i src)) (at + n) (getD src i 0)) (length-take-le i src (le-of-lt h)))
 
 -- what lies past the end is left out
-pub put-end : (l src : List ℕ) (at n : ℕ) → at ≤ length l → n ≡ min (length src) (length l - at) → sets l at (take n src) ≡ sets l at src
-put-end l src at n h e =
-    let k : n ≤ length src = omega arith in
-    let past : sets (sets l at (take n src)) (at + n) (drop n src) ≡ sets l at (take n src) = go (decLe (length l) (at + n)) in
-    sym past
-    ∙ ap (λ (m : ℕ). sets (sets l at (take n src)) (at + m) (drop n src)) (sym (length-take-le n src k))
-    ∙ sym (sets-append l at (take n src) (drop n src))
-    ∙ ap (λ (r : List ℕ). sets l at r) (take-append-drop n src)
+pub sets-take : (l src : List ℕ) (at : ℕ) → at ≤ length l → sets l at (take (length l - at) src) ≡ sets l at src
+sets-take l src at h =
+    sym (past (decLe (length src) (length l - at)))
+    ∙ sym (sets-append l at (take (length l - at) src) (drop (length l - at) src))
+    ∙ ap (sets l at) (take-append-drop (length l - at) src)
   where
-    go : Dec (length l ≤ at + n) → sets (sets l at (take n src)) (at + n) (drop n src) ≡ sets l at (take n src)
-    go (yes p) = sets-past (sets l at (take n src)) (at + n) (drop n src) (rw length-sets p)
-    go (no p) = ap (λ (r : List ℕ). sets (sets l at (take n src)) (at + n) r) (drop-of-length-le src {i = n} (omega arith))
+    past : Dec (length src ≤ length l - at) → sets (sets l at (take (length l - at) src)) (at + length (take (length l - at) src)) (drop (length l - at) src) ≡ sets l at (take (length l - at) src)
+    past (yes p) =
+        ap (sets (sets l at (take (length l - at) src)) (at + length (take (length l - at) src))) (drop-of-length-le src p)
+    past (no p) =
+        let n : length (take (length l - at) src) ≡ length l - at = length-take-le (length l - at) src (omega arith) in
+        sets-past (sets l at (take (length l - at) src)) (at + length (take (length l - at) src)) (drop (length l - at) src) (rw length-sets (omega arith))
 
 -- ---- a copy into an array of zeros
 
