@@ -8,3 +8,4 @@ pub mod Layout
 pub mod Checks
 pub mod Stores
 pub mod Answer
+pub mod Walks

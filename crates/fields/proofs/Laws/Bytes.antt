@@ -99,6 +99,16 @@ unfolding same
 same-refl [] = refl
 same-refl (x ∷ xs) = ap (λ (t : Bool). t && same xs xs) (eq-eqb x x refl) ∙ same-refl xs
 
+pub same-differ : (a b : List ℕ) → same a b ≡ false → a ≡ b → ⊥
+same-differ a b h e = false≢true (sym h ∙ ap (same a) (sym e) ∙ same-refl a)
+
+pub not-same : (a b : List ℕ) → (a ≡ b → ⊥) → same a b ≡ false
+not-same a b h = go (same a b) refl
+  where
+    go : (t : Bool) → same a b ≡ t → same a b ≡ false
+    go true e = absurd (h (same-eq a b e))
+    go false e = e
+
 -- ---- lists brought to a length
 
 pub length-sized : (w : ℕ) (s : List ℕ) → length (sized w s) ≡ w

@@ -2,7 +2,7 @@
 use Prim.Native.Nat.{ℕ, _+_, _≤_, _<_}
 use mathlib.Core.Path.{_≡_, refl, sym, ap, _∙_}
 use mathlib.Core.Bool.{Bool, true, false}
-use mathlib.Core.List.{List, [], _∷_, _++_, append-assoc, append-nil}
+use mathlib.Core.List.{List, [], _∷_, _++_, append-assoc, append-nil, map}
 use native.Mathlib.Omega.{arith}
 use native.Mathlib.Numerals.{add-one}
 use lib.ListN.{length, getD, take, drop, length-append, take-append-drop, drop-of-length-le}
@@ -37,6 +37,11 @@ module _ {A : Type 0} (p : A → Bool) (P : A → Type 0) where
   unfolding all
   each-all f [] h = refl
   each-all f (x ∷ xs) h = and-join (p x) (all p xs) (f x (h .0)) (each-all f xs (h .1))
+
+-- the rule of an element in the middle
+pub each-middle : {A : Type 0} (P : A → Type 0) (before : List A) (x : A) (after : List A) → Each P (before ++ (x ∷ after)) → P x
+each-middle P [] x after h = h .0
+each-middle P (y ∷ before) x after h = each-middle P before x after (h .1)
 
 -- ---- bytes of elements, one after the other
 
@@ -73,3 +78,9 @@ module _ {A : Type 0} (f : A → List ℕ) where
   length-flat-le xs i =
       let e = ap length (sym (flat-append (take i xs) (drop i xs)) ∙ ap (flat f) (take-append-drop i xs)) in
       omega (arith, length-append (flat f (take i xs)) (flat f (drop i xs)))
+
+-- the bytes of what g makes of each element
+pub flat-map : {A : Type 0} (f : List ℕ → List ℕ) (g : A → List ℕ) (xs : List A) → flat f (map g xs) ≡ flat (λ x. f (g x)) xs
+unfolding flat
+flat-map f g [] = refl
+flat-map f g (x ∷ xs) = ap (λ (l : List ℕ). f (g x) ++ l) (flat-map f g xs)

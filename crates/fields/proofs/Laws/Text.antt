@@ -51,11 +51,11 @@ zeros-each : (s : List ℕ) → Each (λ b. b ≡ 0) s → s ≡ replicate (leng
 zeros-each [] h = refl
 zeros-each (b ∷ s) h = ap₂ {C = List ℕ} (λ x xs. x ∷ xs) (h .0) (zeros-each s (h .1))
 
-zeros-all : (s : List ℕ) → allZero s ≡ true → s ≡ replicate (length s) 0
+pub zeros-all : (s : List ℕ) → allZero s ≡ true → s ≡ replicate (length s) 0
 unfolding allZero
 zeros-all s h = zeros-each s (all-each zeroByte (λ b. b ≡ 0) zero-byte s h)
 
-all-zeros : (n : ℕ) → allZero (replicate n 0) ≡ true
+pub all-zeros : (n : ℕ) → allZero (replicate n 0) ≡ true
 unfolding allZero all
 all-zeros zero = refl
 all-zeros (suc n) = all-zeros n
