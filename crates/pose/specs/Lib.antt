@@ -1,0 +1,5 @@
+-- The definitions that the contracts of this crate, and of the crates above it, are stated with. Nothing is proved here.
+
+pub mod Words
+pub mod Transform
+pub mod Position

@@ -1,0 +1,85 @@
+-- TRANSFORM: 48 bytes, twelve 32-bit floats: three columns of the rotation, then TX TY TZ.
+use Prim.Native.Nat.{ℕ, _≤_}
+use mathlib.Core.Path.{_≡_}
+use mathlib.Core.Bool.{cond}
+use mathlib.Core.List.{List, [], _∷_, _++_}
+use lib.Dec.{eqb}
+use lib.ListN.{length, take, drop}
+use Rattle.fields.specs.Bytes.{Bytes}
+use Rattle.fields.specs.Numbers.{beAt}
+use Rattle.fields.specs.Answer.{writtenOf, roomFault, outAfter}
+use Rattle.fields.specs.declared.Written.{Written}
+use Rattle.fields.specs.declared.Written.the-variants.{Wrote}
+use Rattle.pose.specs.declared.Transform.{Transform}
+use Rattle.pose.specs.declared.TransformRead.{TransformRead}
+use Rattle.pose.specs.Words.{Words, wordBytes}
+
+-- the words of a TRANSFORM: twelve
+pub record WellTransform (ws : List ℕ) : Type 0 where
+  pub count : length ws ≡ 12
+  pub words : Words ws
+
+-- check 8
+unfoldable pub transformFault : List ℕ → ℕ
+transformFault content = cond (eqb (length content) 48) 0 8
+
+-- the entries where they stand: column by column, each from its first row to its third, then TX TY TZ
+abbrev pub transformAt : List ℕ → Transform
+transformAt content =
+    record {
+      column1 = beAt 4 0 content ∷ beAt 4 4 content ∷ beAt 4 8 content ∷ [];
+      column2 = beAt 4 12 content ∷ beAt 4 16 content ∷ beAt 4 20 content ∷ [];
+      column3 = beAt 4 24 content ∷ beAt 4 28 content ∷ beAt 4 32 content ∷ [];
+      translation = beAt 4 36 content ∷ beAt 4 40 content ∷ beAt 4 44 content ∷ [];
+    }
+
+-- what is handed out with a refusal
+abbrev pub noTransform : Transform
+noTransform =
+    record { column1 = 0 ∷ 0 ∷ 0 ∷ []; column2 = 0 ∷ 0 ∷ 0 ∷ []; column3 = 0 ∷ 0 ∷ 0 ∷ []; translation = 0 ∷ 0 ∷ 0 ∷ [] }
+
+-- the reader's answer
+unfoldable pub transformOf : List ℕ → TransformRead
+transformOf content =
+    cond (eqb (transformFault content) 0)
+    (record { number = 0; transform = transformAt content })
+    (record { number = transformFault content; transform = noTransform })
+
+-- the words in the order in which they are written
+abbrev pub transformWords : Transform → List ℕ
+transformWords t = t .column1 ++ (t .column2 ++ (t .column3 ++ t .translation))
+
+-- the writer's answer for a buffer of this length, and the buffer that it leaves: check 20 is its only one
+unfoldable pub transformWritten : ℕ → Written
+transformWritten room = writtenOf (roomFault 48 room) 48
+
+unfoldable pub transformOut : Transform → List ℕ → List ℕ
+transformOut t out = outAfter (roomFault 48 (length out)) (wordBytes (transformWords t)) out
+
+-- ---- what is proved of them
+
+-- a transform as the code holds one: three words in each column
+pub record ThreeWords (column : List ℕ) : Type 0 where
+  pub count : length column ≡ 3
+  pub words : Words column
+
+pub record Columns (t : Transform) : Type 0 where
+  pub column1 : ThreeWords (t .column1)
+  pub column2 : ThreeWords (t .column2)
+  pub column3 : ThreeWords (t .column3)
+  pub translation : ThreeWords (t .translation)
+
+pub record Transforms : Type 0 where
+  -- bytes are accepted exactly when they are those of some well formed words, and of only one such list
+  pub accepted : (c : List ℕ) → Bytes c → transformFault c ≡ 0 → (ws : List ℕ) × WellTransform ws × (wordBytes ws ≡ c)
+  pub well : (ws : List ℕ) → WellTransform ws → transformFault (wordBytes ws) ≡ 0
+  pub unique : (ws vs : List ℕ) → WellTransform ws → WellTransform vs → wordBytes ws ≡ wordBytes vs → ws ≡ vs
+  -- the reader hands out those words
+  pub read : (ws : List ℕ) → WellTransform ws → transformWords (transformOf (wordBytes ws) .transform) ≡ ws
+  pub handed : (c : List ℕ) → Bytes c → transformFault c ≡ 0 → wordBytes (transformWords (transformOf c .transform)) ≡ c
+  -- the writer, given what was read and room for it, writes the same bytes and keeps those beyond
+  pub written-back : (c out : List ℕ) → Bytes c → transformFault c ≡ 0 → 48 ≤ length out
+      → (transformWritten (length out) ≡ Wrote 48) × (transformOut (transformOf c .transform) out ≡ c ++ drop 48 out)
+  -- what the writer writes is accepted, and read as what was given
+  pub read-back : (t : Transform) (out : List ℕ) → Columns t → 48 ≤ length out
+      → transformOf (take 48 (transformOut t out)) ≡ record { number = 0; transform = t }

@@ -1,0 +1,228 @@
+// TRANSFORM and POSITION contents. Floats are carried bit for bit, as u32 words: any bits will do, and none are computed with.
+ghost use mathlib.Core.Path.{_≡_};
+ghost use mathlib.Core.List.{[], _∷_, _++_};
+ghost use Prim.Native.Nat.{_*_, _≤_};
+ghost use lib.ListN.{length};
+ghost use lib.Seq.{sets};
+ghost use Rattle.fields.specs.Numbers.{beAt};
+ghost use Rattle.fields.specs.Checks.{orElse};
+ghost use Rattle.fields.specs.Answer.{roomFault};
+ghost use Rattle.pose.specs.Words.{wordBytes};
+ghost use Rattle.pose.specs.Transform.{transformFault, transformOf, transformWritten, transformOut};
+ghost use Rattle.pose.specs.Position.{wordsIn, positionFault, positionOf, countFault, positionWritten, positionOut};
+
+// The three columns of the rotation, each from its first row to its third, then TX TY TZ.
+pub struct Transform {
+    pub column1: [u32; 3],
+    pub column2: [u32; 3],
+    pub column3: [u32; 3],
+    pub translation: [u32; 3],
+}
+
+// Document 01's number, and the transform; all words are 0 where it is refused.
+pub struct TransformRead {
+    pub number: u8,
+    pub transform: Transform,
+}
+
+// Document 01's number, and 3, 6 or 7 words, with zeros past them; none where it is refused.
+pub struct PositionRead {
+    pub number: u8,
+    pub count: usize,
+    pub words: [u32; 7],
+}
+
+// The words at three places.
+fn three(content: &[u8], a: usize, b: usize, c: usize) -> [u32; 3]
+    ensures { λ r. ⌜ r ≡ beAt 4 a (now (content .entry)) ∷ beAt 4 b (now (content .entry)) ∷ beAt 4 c (now (content .entry)) ∷ [] ⌝ }
+{
+    [
+        fields::number::be32(content, a),
+        fields::number::be32(content, b),
+        fields::number::be32(content, c),
+    ]
+}
+
+// 8 where it has another length than 48.
+pub fn transform_number(content: &[u8]) -> u8
+    ensures { λ r. ⌜ r ≡ transformFault (now (content .entry)) ⌝ }
+{
+    if content.len() == 48 { 0 } else { 8 }
+}
+
+// Column by column: the entry in row i and column j, both from 0, is word 3j + i. All words are 0 where it is refused.
+pub fn read_transform(content: &[u8]) -> TransformRead
+    ensures { λ r. ⌜ r ≡ transformOf (now (content .entry)) ⌝ }
+{
+    let number = transform_number(content);
+    if number != 0 {
+        let zeros = [0u32; 3];
+        let none = Transform {
+            column1: zeros,
+            column2: zeros,
+            column3: zeros,
+            translation: zeros,
+        };
+        return TransformRead {
+            number,
+            transform: none,
+        };
+    }
+    let column1 = three(content, 0, 4, 8);
+    let column2 = three(content, 12, 16, 20);
+    let column3 = three(content, 24, 28, 32);
+    let translation = three(content, 36, 40, 44);
+    let transform = Transform {
+        column1,
+        column2,
+        column3,
+        translation,
+    };
+    TransformRead {
+        number: 0,
+        transform,
+    }
+}
+
+// The words in the order in which they are written: column by column.
+fn twelve(
+    column1: [u32; 3],
+    column2: [u32; 3],
+    column3: [u32; 3],
+    translation: [u32; 3],
+) -> [u32; 12]
+    ensures { λ r. ⌜ r ≡ column1 ++ (column2 ++ (column3 ++ translation)) ⌝ }
+{
+    [
+        column1[0],
+        column1[1],
+        column1[2],
+        column2[0],
+        column2[1],
+        column2[2],
+        column3[0],
+        column3[1],
+        column3[2],
+        translation[0],
+        translation[1],
+        translation[2],
+    ]
+}
+
+// Writes the words from the front on. They are few, so that no place overflows.
+fn put_words(words: &[u32], out: &mut [u8])
+    requires { ⌜ length (now words) ≤ 12 ⌝ }
+    ensures { λ _. ⌜ now (out .exit) ≡ sets (now (out .entry)) 0 (wordBytes (now (words .entry))) ⌝ }
+{
+    let mut i = 0;
+    while i < words.len() {
+        fields::number::put32(words[i], 4 * i, out);
+        i += 1;
+    }
+}
+
+// Writes 48 bytes. Its only refusal is 20.
+pub fn write_transform(transform: Transform, out: &mut [u8]) -> fields::Written
+    ensures answer { λ r. ⌜ r ≡ transformWritten (length (now (out .entry))) ⌝ }
+    ensures bytes { λ _. ⌜ now (out .exit) ≡ transformOut transform (now (out .entry)) ⌝ }
+{
+    let short = fields::room_fault(48, out.len());
+    if short != 0 {
+        return fields::Written::Refused(short);
+    }
+    let column1 = transform.column1;
+    let column2 = transform.column2;
+    let column3 = transform.column3;
+    let translation = transform.translation;
+    let words = twelve(column1, column2, column3, translation);
+    put_words(&words, out);
+    fields::Written::Wrote(48)
+}
+
+// How many words a POSITION of so many bytes has; 0 where it is none.
+fn words_in(n: usize) -> usize
+    ensures { λ r. ⌜ r ≡ wordsIn n ⌝ }
+{
+    match n {
+        12 => 3,
+        24 => 6,
+        28 => 7,
+        _ => 0,
+    }
+}
+
+// 8 where it has another length than 12, 24 and 28.
+pub fn position_number(content: &[u8]) -> u8
+    ensures { λ r. ⌜ r ≡ positionFault (now (content .entry)) ⌝ }
+{
+    if words_in(content.len()) == 0 { 8 } else { 0 }
+}
+
+// Seven words are read: those past the end of the content are 0.
+pub fn read_position(content: &[u8]) -> PositionRead
+    ensures { λ r. ⌜ r ≡ positionOf (now (content .entry)) ⌝ }
+{
+    let number = position_number(content);
+    if number != 0 {
+        return PositionRead {
+            number,
+            count: 0,
+            words: [0u32; 7],
+        };
+    }
+    let words = [
+        fields::number::be32(content, 0),
+        fields::number::be32(content, 4),
+        fields::number::be32(content, 8),
+        fields::number::be32(content, 12),
+        fields::number::be32(content, 16),
+        fields::number::be32(content, 20),
+        fields::number::be32(content, 24),
+    ];
+    let count = words_in(content.len());
+    PositionRead {
+        number: 0,
+        count,
+        words,
+    }
+}
+
+// 8 where a POSITION has not so many words.
+fn count_fault(n: usize) -> u8
+    ensures { λ r. ⌜ r ≡ countFault n ⌝ }
+{
+    if n == 3 {
+        return 0;
+    }
+    if n == 6 {
+        return 0;
+    }
+    if n == 7 {
+        return 0;
+    }
+    8
+}
+
+// The writer's checks for n words: 8, then 20.
+fn write_fault(n: usize, room: usize) -> u8
+    ensures { λ r. ⌜ r ≡ orElse (countFault n) (roomFault (4 * n) room) ⌝ }
+{
+    let fault = count_fault(n);
+    if fault != 0 {
+        return fault;
+    }
+    fields::room_fault(4 * n, room)
+}
+
+// Writes 3, 6 or 7 words; any other number of them is 8, and then 20 is checked.
+pub fn write_position(words: &[u32], out: &mut [u8]) -> fields::Written
+    ensures answer { λ r. ⌜ r ≡ positionWritten (now (words .entry)) (length (now (out .entry))) ⌝ }
+    ensures bytes { λ _. ⌜ now (out .exit) ≡ positionOut (now (words .entry)) (now (out .entry)) ⌝ }
+{
+    let fault = write_fault(words.len(), out.len());
+    if fault != 0 {
+        return fields::Written::Refused(fault);
+    }
+    put_words(words, out);
+    fields::Written::Wrote(4 * words.len())
+}
