@@ -1,0 +1,30 @@
+-- The examples, by computation.
+use mathlib.Core.Path.{refl}
+use Rattle.fields.specs.Numbers.{beVal, beBytes}
+use Rattle.fields.specs.Answer.{writtenOf, roomFault, outAfter}
+use Rattle.image.specs.Image.{encodeImage, scalarSize, kindOk, within, directionOk, directionsOk, pixelBytes, headerOk, ruleFault, headerOf, imageFault, imageOf, pixelsOf, writeFault, imageWritten, imageAfter}
+use Rattle.image.specs.Examples.{Examples}
+
+pub examples : Examples
+unfolding beVal beBytes writtenOf roomFault outAfter encodeImage scalarSize kindOk within directionOk directionsOk pixelBytes headerOk ruleFault headerOf imageFault imageOf pixelsOf writeFault imageWritten imageAfter
+examples =
+    record {
+      bytes = refl;
+      accepted = refl;
+      handed = refl;
+      pixels = refl;
+      short = refl;
+      long = refl;
+      inside = refl;
+      outside = refl;
+      far-outside = refl;
+      float64 = refl;
+      no-type = refl;
+      nothing = refl;
+      wrote = refl;
+      no-room = refl;
+      refused = refl;
+      written = refl;
+      kept = refl;
+      untouched = refl;
+    }
