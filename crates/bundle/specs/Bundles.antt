@@ -1,0 +1,18 @@
+-- What is proved of a BIND content's layout: it is accepted exactly when some children that can be written encode to these bytes, and
+-- only one list of children does.
+use Prim.Native.Nat.{ℕ}
+use mathlib.Core.Path.{_≡_}
+use mathlib.Core.List.{List}
+use Rattle.fields.specs.Bytes.{Bytes}
+use Rattle.bundle.specs.Children.{Child, encodeChildren, WellBundle}
+use Rattle.bundle.specs.Layout.{layoutFault}
+
+-- some children are written as these bytes
+abbrev pub IsBundle : List ℕ → Type 0
+IsBundle s = (cs : List Child) × WellBundle cs × (encodeChildren cs ≡ s)
+
+pub record Bundles : Type 0 where
+  pub accepted : (s : List ℕ) → Bytes s → layoutFault s ≡ 0 → IsBundle s
+  pub well-accepted : (cs : List Child) → WellBundle cs → layoutFault (encodeChildren cs) ≡ 0
+  pub refused : (s : List ℕ) → Bytes s → (IsBundle s → ⊥) → layoutFault s ≡ 10
+  pub unique : (xs ys : List Child) → WellBundle xs → WellBundle ys → encodeChildren xs ≡ encodeChildren ys → xs ≡ ys

@@ -1,0 +1,58 @@
+-- A bundle as document 01 describes it: a list of children, and the BIND content that it is written as. Nothing here reads bytes.
+use Prim.Native.Nat.{ℕ, _%_, _^_, _≤_, _<_}
+use mathlib.Core.List.{List, [], _∷_, _++_}
+use lib.ListN.{length, replicate}
+use Rattle.fields.specs.Lists.{Each, flat}
+use Rattle.fields.specs.Numbers.{beBytes}
+use Rattle.fields.specs.Text.{Text, textBytes}
+use Rattle.fields.specs.Layout.{join}
+
+-- a child: the text of its type, its name, and its content as bytes
+pub record Child : Type 0 where
+  pub typeText : List ℕ
+  pub name : List ℕ
+  pub content : List ℕ
+
+-- the bytes, and one 0 after them where their number is odd
+unfoldable pub padded : List ℕ → List ℕ
+padded x = x ++ replicate (length x % 2) 0
+
+-- CTYPE, a text field, and CSIZE
+unfoldable pub childHeader : Child → List ℕ
+childHeader c = textBytes 12 (c .typeText) ++ beBytes 8 (length (c .content))
+
+-- a name of the table, ended by one 0
+unfoldable pub childName : Child → List ℕ
+childName c = c .name ++ (0 ∷ [])
+
+-- a child's data, followed by one 0 byte if its size is odd
+unfoldable pub childData : Child → List ℕ
+childData c = padded (c .content)
+
+-- the name table: the names, then one more 0 if the total is odd
+unfoldable pub nameTable : List Child → List ℕ
+nameTable cs = padded (flat childName cs)
+
+-- N_CHILD; for each child CTYPE and CSIZE; NAME_TABLE_SIZE, which counts the table's last 0 too; the table; the children's data
+unfoldable pub encodeChildren : List Child → List ℕ
+encodeChildren cs =
+    join
+    (beBytes 2 (length cs)
+    ∷ flat childHeader cs
+    ∷ beBytes 2 (length (nameTable cs))
+    ∷ nameTable cs
+    ∷ flat childData cs
+    ∷ [])
+
+-- type and name are texts, and the type and the size fit their fields. What the type asks of the content is not said here
+pub record WellChild (c : Child) : Type 0 where
+  pub type-text : Text (c .typeText)
+  pub type-fits : length (c .typeText) ≤ 12
+  pub name-text : Text (c .name)
+  pub size-fits : length (c .content) < 256 ^ 8
+
+-- children that can be written: besides, their number and the table's size fit their fields
+pub record WellBundle (cs : List Child) : Type 0 where
+  pub count-fits : length cs < 256 ^ 2
+  pub table-fits : length (nameTable cs) < 256 ^ 2
+  pub each : Each WellChild cs
