@@ -1,0 +1,4 @@
+pub mod Kinds
+pub mod Walk
+pub mod Faults
+pub mod Contents

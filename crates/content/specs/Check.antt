@@ -1,0 +1,40 @@
+-- Document 01's number for a content, by its type: 8 for a TRANSFORM or a POSITION, 9 for an IMAGE, 10 for a BIND's layout, 11 for a BIND
+-- below level 4, 0 for none.
+use Prim.Native.Nat.{ℕ, zero, suc}
+use mathlib.Core.List.{List}
+use lib.ListN.{take, drop}
+use Rattle.fields.specs.Checks.{orElse}
+use Rattle.pose.specs.Transform.{transformFault}
+use Rattle.pose.specs.Position.{positionFault}
+use Rattle.image.specs.Image.{imageFault}
+use Rattle.bundle.specs.Layout.{count, headers, dataOf, typeOf, sizeOf, afterBlock, layoutFault}
+use Rattle.content.specs.declared.Kind.{Kind}
+use Rattle.content.specs.declared.Kind.the-variants.{Transform, Position, Image, Bind, Other}
+use Rattle.content.specs.Kinds.{kindOf}
+
+-- a content of this kind, where `bind` judges a BIND
+abbrev pub kindFault : (List ℕ → ℕ) → Kind → List ℕ → ℕ
+kindFault bind Transform s = transformFault s
+kindFault bind Position s = positionFault s
+kindFault bind Image s = imageFault s
+kindFault bind Bind s = bind s
+kindFault bind Other s = 0
+
+-- the first fault of k children, by what is left of the headers and of the data
+unfoldable pub childrenFault : (List ℕ → ℕ) → ℕ → List ℕ → List ℕ → ℕ
+childrenFault bind zero h d = 0
+childrenFault bind (suc k) h d =
+    orElse (kindFault bind (kindOf (typeOf h)) (take (sizeOf h) d)) (childrenFault bind k (drop 20 h) (afterBlock (sizeOf h) d))
+
+-- a BIND where so many levels are left: 11 before anything else of it, then its own layout, then its children in order
+unfoldable pub bindFault : ℕ → List ℕ → ℕ
+bindFault zero s = 11
+bindFault (suc levels) s = orElse (layoutFault s) (childrenFault (bindFault levels) (count s) (headers s) (dataOf s))
+
+-- a content of the type with this text
+unfoldable pub contentFault : ℕ → List ℕ → List ℕ → ℕ
+contentFault levels t s = kindFault (bindFault levels) (kindOf t) s
+
+-- the outermost BIND is level 1, and level 4 is the deepest
+abbrev pub deepest : ℕ
+deepest = 4

@@ -1,0 +1,5 @@
+pub mod Kinds
+pub mod Tree
+pub mod Check
+pub mod Contents
+pub mod Examples

@@ -1,0 +1,101 @@
+// Contents, judged by their type: one dispatch, and BINDs to their innermost children.
+ghost use mathlib.Core.Path.{_≡_};
+ghost use Rattle.content.specs.Kinds.{kindOf};
+ghost use Rattle.content.specs.Check.{contentFault, bindFault, deepest};
+
+// The types whose contents are ruled; any other type's content is opaque.
+enum Kind {
+    Transform,
+    Position,
+    Image,
+    Bind,
+    Other,
+}
+
+// The kind of a type, by its exact text.
+fn kind_of(text: &[u8]) -> Kind
+    ensures { λ r. ⌜ r ≡ kindOf (now (text .entry)) ⌝ }
+{
+    if fields::slice::same(text, b"TRANSFORM") {
+        return Kind::Transform;
+    }
+    if fields::slice::same(text, b"POSITION") {
+        return Kind::Position;
+    }
+    if fields::slice::same(text, b"IMAGE") {
+        return Kind::Image;
+    }
+    if fields::slice::same(text, b"BIND") {
+        return Kind::Bind;
+    }
+    Kind::Other
+}
+
+// The check of a content and the check of a BIND call on each other. The measure is twice the levels left and twice the bytes left, and
+// one more here, as this function hands on both as they are. A BIND hands a child one level less, and fewer bytes: its own four bytes of
+// counts are not part of any child.
+fn check_content(text: &[u8], content: &[u8], levels: u32) -> u8
+    ensures { λ r. ⌜ r ≡ contentFault levels (now (text .entry)) (now (content .entry)) ⌝ }
+{
+    match kind_of(text) {
+        Kind::Transform => pose::transform_number(content),
+        Kind::Position => pose::position_number(content),
+        Kind::Image => image::image_number(content),
+        Kind::Bind => check_bind(content, levels),
+        Kind::Other => 0,
+    }
+}
+
+// See check_content for the measure. The children are walked once, down what is left of the headers and of the data.
+fn check_bind(content: &[u8], levels: u32) -> u8
+    ensures { λ r. ⌜ r ≡ bindFault levels (now (content .entry)) ⌝ }
+{
+    if levels == 0 {
+        return 11;
+    }
+    let fault = bundle::layout::layout_number(content);
+    if fault != 0 {
+        return fault;
+    }
+    let mut h = bundle::parts::headers(content);
+    let mut d = bundle::parts::data_of(content);
+    let mut left = bundle::parts::count(content);
+    while 0 < left {
+        let size = bundle::parts::size_of(h);
+        let child = check_content(
+            bundle::parts::type_of(h),
+            fields::slice::first(d, size),
+            levels - 1,
+        );
+        if child != 0 {
+            return child;
+        }
+        let next_headers = fields::slice::rest(h, 20);
+        h = next_headers;
+        let next_data = bundle::parts::after_block(d, size);
+        d = next_data;
+        left -= 1;
+    }
+    0
+}
+
+// Document 01's number for a content of the type with this text, lent by itself: a BIND is level 1.
+pub fn content_number(text: &[u8], content: &[u8]) -> u8
+    ensures { λ r. ⌜ r ≡ contentFault deepest (now (text .entry)) (now (content .entry)) ⌝ }
+{
+    check_content(text, content, 4)
+}
+
+// The same for a child of such a BIND: a BIND there is level 2.
+pub fn nested_number(text: &[u8], content: &[u8]) -> u8
+    ensures { λ r. ⌜ r ≡ contentFault 3 (now (text .entry)) (now (content .entry)) ⌝ }
+{
+    check_content(text, content, 3)
+}
+
+// Document 01's number for a BIND content lent by itself.
+pub fn bind_number(content: &[u8]) -> u8
+    ensures { λ r. ⌜ r ≡ bindFault deepest (now (content .entry)) ⌝ }
+{
+    check_bind(content, 4)
+}
