@@ -1,0 +1,5 @@
+pub mod Lookup
+pub mod Past
+pub mod Cases
+pub mod Lookups
+pub mod Either

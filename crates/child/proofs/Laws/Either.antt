@@ -1,0 +1,99 @@
+-- Look-ups in two bundles: the site's child of the name, else the default's. Assumes nothing.
+use Prim.Native.Nat.{ℕ, _≤_, _<_}
+use mathlib.Core.Path.{_≡_, refl, sym, ap, ap₂, _∙_}
+use mathlib.Core.Bool.{Bool, true, false}
+use mathlib.Core.List.{List}
+use native.Mathlib.Omega.{arith}
+use lib.Dec.{ltb}
+use borrow.Author.Tests.{eq-eqb, ne-eqb, lt-ltb, le-ltb, ltb-true, ltb-false}
+use Rattle.fields.proofs.Laws.Checks.{else-zero, else-first, else-second}
+use Rattle.bundle.specs.Children.{Child}
+use Rattle.bundle.specs.Layout.{count}
+use Rattle.content.specs.Check.{bindFault, deepest}
+use Rattle.child.specs.declared.Place.{Place}
+use Rattle.child.specs.declared.EitherPlace.{EitherPlace}
+use Rattle.child.specs.declared.Source.{Source}
+use Rattle.child.specs.declared.Source.the-variants.{Site, Default, Neither}
+use Rattle.child.specs.Lookup.{indexOf, placeIn, placeOf}
+use Rattle.child.specs.Either.{eitherFault, sourced, eitherPlace, eitherPart}
+use Rattle.child.specs.Lookups.{HasChildren, Numbered, NoneNamed, FirstNamed, EitherLookups}
+use Rattle.child.proofs.Laws.Lookups.{accepted, count-of, inside, child-place, child-content, index-named, index-unnamed, place-none, place-refused}
+
+sourced-accepted : (x : Source) (p : Place) → p .number ≡ 0 → sourced x p ≡ record { number = 0; source = x; at = p .at; len = p .len }
+unfolding sourced
+sourced-accepted x p e =
+    simp (eq-eqb (p .number) 0 e) (ap {B = EitherPlace} (λ (n : ℕ). record { number = n; source = x; at = p .at; len = p .len }) e)
+
+sourced-refused : (x : Source) (p : Place) → (p .number ≡ 0 → ⊥) → sourced x p ≡ record { number = p .number; source = Neither; at = p .at; len = p .len }
+unfolding sourced
+sourced-refused x p h = simp (ne-eqb (p .number) 0 h)
+
+module _ (a b x : List ℕ) where
+  from-site : indexOf a x < count a → eitherPlace a b x ≡ sourced Site (placeIn (eitherFault a b) a (indexOf a x))
+  unfolding eitherPlace
+  from-site h = simp (lt-ltb (indexOf a x) (count a) h)
+
+  from-default : count a ≤ indexOf a x → eitherPlace a b x ≡ sourced Default (placeIn (eitherFault a b) b (indexOf b x))
+  unfolding eitherPlace
+  from-default h = simp (le-ltb (indexOf a x) (count a) h)
+
+  -- a fault of either refuses
+  faulty : (eitherFault a b ≡ 0 → ⊥) → eitherPlace a b x ≡ record { number = eitherFault a b; source = Neither; at = 0; len = 0 }
+  faulty h = go (ltb (indexOf a x) (count a)) refl
+    where
+      refused : (y : Source) (s : List ℕ) (j : ℕ) → sourced y (placeIn (eitherFault a b) s j) ≡ record { number = eitherFault a b; source = Neither; at = 0; len = 0 }
+      refused y s j = ap (sourced y) (place-refused (eitherFault a b) s j h) ∙ sourced-refused y _ h
+
+      go : (t : Bool) → ltb (indexOf a x) (count a) ≡ t → eitherPlace a b x ≡ record { number = eitherFault a b; source = Neither; at = 0; len = 0 }
+      go true e = from-site (ltb-true _ _ e) ∙ refused Site a (indexOf a x)
+      go false e = from-default (ltb-false _ _ e) ∙ refused Default b (indexOf b x)
+
+-- child n of the bundle of a source
+found : (y : Source) (s : List ℕ) (cs : List Child) (n : ℕ) (c : Child) → HasChildren s cs → Numbered n c cs → (fault j : ℕ) → fault ≡ 0 → j ≡ n
+    → sourced y (placeIn fault s j) ≡ record { number = 0; source = y; at = placeOf s n .at; len = placeOf s n .len }
+found y s cs n c h k fault j e i =
+    ap₂ (λ (f m : ℕ). sourced y (placeIn f s m)) (e ∙ sym (accepted s cs h)) i
+    ∙ sourced-accepted y (placeOf s n) (ap (λ (p : Place). p .number) (child-place s cs n c h k))
+
+-- two accepted bundles
+module _ (a b : List ℕ) (cs ds : List Child) (x : List ℕ) (ha : HasChildren a cs) (hb : HasChildren b ds) where
+  faultless : eitherFault a b ≡ 0
+  faultless = else-zero (bindFault deepest a) (bindFault deepest b) (accepted a cs ha) (accepted b ds hb)
+
+  in-site : (n : ℕ) (c : Child) → FirstNamed x n c cs
+      → (eitherPlace a b x ≡ record { number = 0; source = Site; at = placeOf a n .at; len = placeOf a n .len }) × (eitherPart (eitherPlace a b x) a b ≡ c .content)
+  in-site n c f =
+      let i = index-named a cs ha x n c f in
+      let e = from-site a b x (omega (arith, i, inside a cs n c ha (f .numbered))) ∙ found Site a cs n c ha (f .numbered) _ _ faultless i in
+      (e, ap (λ (p : EitherPlace). eitherPart p a b) e ∙ child-content a cs n c ha (f .numbered))
+
+  -- the site has no child of the name
+  module _ (none : NoneNamed x cs) where
+    left-to-default : eitherPlace a b x ≡ sourced Default (placeIn (eitherFault a b) b (indexOf b x))
+    left-to-default = from-default a b x (omega (arith, index-unnamed a cs ha x none, count-of a cs ha))
+
+    in-default : (n : ℕ) (c : Child) → FirstNamed x n c ds
+        → (eitherPlace a b x ≡ record { number = 0; source = Default; at = placeOf b n .at; len = placeOf b n .len }) × (eitherPart (eitherPlace a b x) a b ≡ c .content)
+    in-default n c f =
+        let e = left-to-default ∙ found Default b ds n c hb (f .numbered) _ _ faultless (index-named b ds hb x n c f) in
+        (e, ap (λ (p : EitherPlace). eitherPart p a b) e ∙ child-content b ds n c hb (f .numbered))
+
+    in-neither : NoneNamed x ds → eitherPlace a b x ≡ record { number = 19; source = Neither; at = 0; len = 0 }
+    in-neither f =
+        left-to-default
+        ∙ ap (sourced Default) (place-none (eitherFault a b) b (indexOf b x) faultless (omega (arith, index-unnamed b ds hb x f, count-of b ds hb)))
+        ∙ sourced-refused Default _ (λ z. omega arith)
+
+pub either-lookups : EitherLookups
+either-lookups =
+    record {
+      site = λ a b cs ds x n c ha hb f. in-site a b cs ds x ha hb n c f;
+      default = λ a b cs ds x n c ha hb none f. in-default a b cs ds x ha hb none n c f;
+      neither = in-neither;
+      site-fault = λ a b x h.
+          let e = else-first (bindFault deepest a) (bindFault deepest b) h in
+          faulty a b x (λ z. h (sym e ∙ z)) ∙ ap (λ (n : ℕ). record { number = n; source = Neither; at = 0; len = 0 }) e;
+      default-fault = λ a b x h k.
+          let e = else-second (bindFault deepest a) (bindFault deepest b) h in
+          faulty a b x (λ z. k (sym e ∙ z)) ∙ ap (λ (n : ℕ). record { number = n; source = Neither; at = 0; len = 0 }) e;
+    }

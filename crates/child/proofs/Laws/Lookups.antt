@@ -1,0 +1,226 @@
+-- Look-ups in an accepted content give its children: those of the tree that is written as it. Assumes nothing.
+use Prim.Native.Nat.{ℕ, _+_, _-_, _*_, _%_, _≤_, _<_}
+use mathlib.Core.Path.{_≡_, refl, sym, ap, ap₂, subst, _∙_}
+use mathlib.Core.List.{List, [], _∷_, _++_}
+use native.Mathlib.Omega.{arith}
+use lib.ListN.{length, take, drop, replicate, length-append}
+use borrow.Author.Tests.{eq-eqb, ne-eqb, lt-ltb, le-ltb}
+use Rattle.fields.specs.Bytes.{Bytes, same}
+use Rattle.fields.specs.Lists.{Each, flat}
+use Rattle.fields.specs.Numbers.{beBytes}
+use Rattle.fields.specs.Text.{textOf}
+use Rattle.fields.proofs.Laws.Checks.{else-second}
+use Rattle.fields.proofs.Laws.Lists.{flat-append, each-middle}
+use Rattle.bundle.specs.Children.{Child, padded, childHeader, childName, childData, nameTable, encodeChildren, WellChild, WellBundle}
+use Rattle.bundle.specs.Layout.{count, headers, tableOf, dataOf, typeOf, sizeOf}
+use Rattle.bundle.proofs.Laws.Children.{flat-cons, header-type, header-size, name-text, block-data}
+use Rattle.bundle.proofs.Laws.Written.{length-encode, headers-written, count-written, table-written, data-of-written, data-front}
+use Rattle.content.specs.Kinds.{bindText}
+use Rattle.content.specs.Tree.{Content, transform, position, image, bind, other, typeText, encode, childList, WellFormed}
+use Rattle.content.specs.Check.{bindFault, contentFault, deepest}
+use Rattle.content.proofs.Laws.Kinds.{differ}
+use Rattle.content.proofs.Laws.Faults.{bind-content}
+use Rattle.content.proofs.Laws.Contents.{content-accepted, content-well}
+use Rattle.child.specs.declared.Place.{Place}
+use Rattle.child.specs.Lookup.{headersFrom, namesFrom, dataFrom, indexOf, indexIn, countOf, childNumber, placed, placeIn, placeOf, partAt, typeAt, nameAt}
+use Rattle.child.specs.Lookups.{HasChildren, Numbered, NoneNamed, FirstNamed, placeAmong, Lookups}
+use Rattle.child.proofs.Laws.Cases.{numbered-or-none, named-or-none}
+use Rattle.child.proofs.Laws.Lookup.{left-place, number-fault}
+use Rattle.child.proofs.Laws.Past.{headers-past, names-past, data-past, index-first, index-none}
+
+-- ---- an accepted content and its children
+
+module _ (s : List ℕ) (cs : List Child) (h : HasChildren s cs) where
+  well : WellBundle cs
+  unfolding WellFormed
+  well = subst WellBundle (h .children) (h .well .0)
+
+  written : encodeChildren cs ≡ s
+  unfolding encode
+  written = ap encodeChildren (sym (h .children)) ∙ h .bytes
+
+  pub accepted : bindFault deepest s ≡ 0
+  accepted =
+      sym (bind-content deepest s)
+      ∙ ap (contentFault deepest bindText) (sym (h .bytes))
+      ∙ content-well deepest (bind (h .tree)) (h .well)
+
+  pub count-of : count s ≡ length cs
+  count-of = ap (λ (l : List ℕ). count l) (sym written) ∙ count-written cs well
+
+  -- the table's last 0, if any
+  abbrev pad : List ℕ
+  pad = replicate (length (flat childName cs) % 2) 0
+
+  table-of : tableOf s ≡ flat childName cs ++ pad
+  unfolding nameTable padded
+  table-of = ap (λ (l : List ℕ). tableOf l) (sym written) ∙ table-written cs well
+
+-- ---- the answers, by cases
+
+module _ (s : List ℕ) where
+  count-accepted : bindFault deepest s ≡ 0 → countOf s ≡ record { number = 0; count = count s }
+  unfolding countOf
+  count-accepted h = simp (eq-eqb (bindFault deepest s) 0 h) (ap (λ (n : ℕ). record { number = n; count = count s }) h)
+
+  count-refused : (bindFault deepest s ≡ 0 → ⊥) → countOf s ≡ record { number = bindFault deepest s; count = 0 }
+  unfolding countOf
+  count-refused h = simp (ne-eqb (bindFault deepest s) 0 h)
+
+module _ (number : ℕ) (s : List ℕ) (j : ℕ) where
+  placed-accepted : number ≡ 0
+      → placed number s j ≡ record { number = 0; at = length s - length (dataFrom j (headers s) (dataOf s)); len = sizeOf (headersFrom j s) }
+  unfolding placed
+  placed-accepted h = simp (eq-eqb number 0 h)
+
+  placed-refused : (number ≡ 0 → ⊥) → placed number s j ≡ record { number = number; at = 0; len = 0 }
+  unfolding placed
+  placed-refused h = simp (ne-eqb number 0 h)
+
+module _ (fault : ℕ) (s : List ℕ) (j : ℕ) (e : fault ≡ 0) where
+  pub number-found : j < count s → childNumber fault s j ≡ 0
+  unfolding childNumber
+  number-found h = else-second fault _ e ∙ simp (lt-ltb j (count s) h)
+
+  number-none : count s ≤ j → childNumber fault s j ≡ 19
+  unfolding childNumber
+  number-none h = else-second fault _ e ∙ simp (le-ltb j (count s) h)
+
+  pub place-none : count s ≤ j → placeIn fault s j ≡ record { number = 19; at = 0; len = 0 }
+  place-none h = ap (λ (n : ℕ). placed n s j) (number-none h) ∙ placed-refused 19 s j (λ z. omega arith)
+
+-- c is child n
+module _ (s : List ℕ) (cs : List Child) (n : ℕ) (c : Child) (h : HasChildren s cs) (k : Numbered n c cs) where
+  abbrev after : List Child
+  after = k .after
+
+  abbrev rest : List ℕ
+  rest = beBytes 2 (length (nameTable cs)) ++ (nameTable cs ++ flat childData cs)
+
+  each : Each WellChild (k .before ++ (c ∷ after))
+  each = subst (Each WellChild) (sym (k .list)) (well s cs h .each)
+
+  well-child : WellChild c
+  well-child = each-middle WellChild (k .before) c after each
+
+  pub inside : n < count s
+  inside =
+      let e = ap length (k .list) in
+      omega (arith, e, k .number, count-of s cs h, length-append (k .before) (c ∷ after))
+
+  headers-at : headersFrom n s ≡ childHeader c ++ (flat childHeader after ++ rest)
+  headers-at =
+      ap (λ (l : List ℕ). headersFrom n l) (sym (written s cs h))
+      ∙ ap (drop (20 * n)) (headers-written cs)
+      ∙ ap₂ (λ (m : ℕ) (l : List Child). drop (20 * m) (flat childHeader l ++ rest)) (sym (k .number)) (sym (k .list))
+      ∙ headers-past (c ∷ after) rest (k .before)
+      ∙ flat-cons childHeader c after rest
+
+  data-at : dataFrom n (headers s) (dataOf s) ≡ flat childData (c ∷ after)
+  data-at =
+      ap (λ (l : List ℕ). dataFrom n (headers l) (dataOf l)) (sym (written s cs h))
+      ∙ ap₂ (dataFrom n) (headers-written cs) (data-of-written cs (well s cs h))
+      ∙ ap₂ (λ (m : ℕ) (l : List Child). dataFrom m (flat childHeader l ++ rest) (flat childData l)) (sym (k .number)) (sym (k .list))
+      ∙ data-past (c ∷ after) rest (k .before) each
+
+  names-at : namesFrom n (tableOf s) ≡ childName c ++ (flat childName after ++ pad s cs h)
+  names-at =
+      ap (namesFrom n) (table-of s cs h)
+      ∙ ap₂ (λ (m : ℕ) (l : List Child). namesFrom m (flat childName l ++ pad s cs h)) (sym (k .number)) (sym (k .list))
+      ∙ names-past (c ∷ after) (pad s cs h) (k .before) each
+      ∙ flat-cons childName c after (pad s cs h)
+
+  len-at : sizeOf (headersFrom n s) ≡ length (c .content)
+  len-at = ap sizeOf headers-at ∙ header-size c (flat childHeader after ++ rest) well-child
+
+  at-at : length s - length (dataFrom n (headers s) (dataOf s)) ≡ 4 + 20 * length cs + length (nameTable cs) + length (flat childData (k .before))
+  at-at =
+      let a = ap length data-at in
+      let b = ap length (sym (written s cs h)) ∙ length-encode cs in
+      let d = ap (λ (l : List Child). length (flat childData l)) (sym (k .list)) ∙ ap length (flat-append childData (k .before) (c ∷ after)) in
+      omega (arith, a, b, d, length-append (flat childData (k .before)) (flat childData (c ∷ after)))
+
+  number-at : childNumber (bindFault deepest s) s n ≡ 0
+  number-at = number-found (bindFault deepest s) s n (accepted s cs h) inside
+
+  place-at : placeOf s n ≡ record { number = 0; at = length s - length (dataFrom n (headers s) (dataOf s)); len = sizeOf (headersFrom n s) }
+  place-at = placed-accepted (childNumber (bindFault deepest s) s n) s n number-at
+
+  pub child-place : placeOf s n ≡ placeAmong cs (k .before) c
+  child-place = place-at ∙ (λ i. record { number = 0; at = at-at i; len = len-at i })
+
+  pub child-content : partAt (placeOf s n) s ≡ c .content
+  child-content =
+      ap (λ (p : Place). partAt p s) place-at
+      ∙ ap₂ take len-at (left-place s n ∙ data-at ∙ data-front c after)
+      ∙ block-data (c .content) (flat childData after)
+
+  child-type : typeAt s n ≡ c .typeText
+  unfolding typeAt
+  child-type = simp (eq-eqb _ 0 number-at) (ap typeOf headers-at ∙ header-type c (flat childHeader after ++ rest) well-child)
+
+  child-name : nameAt s n ≡ c .name
+  unfolding nameAt
+  child-name = simp (eq-eqb _ 0 number-at) (ap textOf names-at ∙ name-text c well-child (flat childName after ++ pad s cs h))
+
+module _ (s : List ℕ) (cs : List Child) (h : HasChildren s cs) where
+  pub place-past : (n : ℕ) → length cs ≤ n → placeOf s n ≡ record { number = 19; at = 0; len = 0 }
+  place-past n l = place-none (bindFault deepest s) s n (accepted s cs h) (omega (arith, l, count-of s cs h))
+
+  index-of : (x : List ℕ) → indexOf s x ≡ indexIn (length cs) (flat childName cs ++ pad s cs h) x
+  index-of x = ap₂ (λ (m : ℕ) (t : List ℕ). indexIn m t x) (count-of s cs h) (table-of s cs h)
+
+  -- the first child of a name
+  pub index-named : (x : List ℕ) (n : ℕ) (c : Child) → FirstNamed x n c cs → indexOf s x ≡ n
+  index-named x n c f =
+      let k = f .numbered in
+      index-of x
+      ∙ ap (λ (l : List Child). indexIn (length l) (flat childName l ++ pad s cs h) x) (sym (k .list))
+      ∙ index-first x (k .before) c (k .after) (pad s cs h) (subst (Each WellChild) (sym (k .list)) (well s cs h .each)) (f .named) (f .first)
+      ∙ k .number
+
+  pub index-unnamed : (x : List ℕ) → NoneNamed x cs → indexOf s x ≡ length cs
+  index-unnamed x f = index-of x ∙ index-none x cs (pad s cs h) (well s cs h .each) f
+
+-- an accepted content is a BIND's
+children-of : (s : List ℕ) (x : Content) → typeText x ≡ bindText → WellFormed x deepest → encode x ≡ s → (cs : List Child) × HasChildren s cs
+unfolding WellFormed same
+children-of s (transform ws) t w e = absurd (differ refl t)
+children-of s (position ws) t w e = absurd (differ refl t)
+children-of s (image x) t w e = absurd (differ refl t)
+children-of s (bind tree) t w e = (childList tree, record { tree = tree; well = w; bytes = e; children = refl })
+children-of s (other u r) t w e = absurd (w .0 .no-bind t)
+
+has-children : (s : List ℕ) → Bytes s → bindFault deepest s ≡ 0 → (cs : List Child) × HasChildren s cs
+has-children s b e = let x = content-accepted deepest bindText s b (bind-content deepest s ∙ e) in children-of s (x .content) (x .type) (x .well) (x .bytes)
+
+-- ---- a refused look-up
+
+pub place-refused : (fault : ℕ) (s : List ℕ) (j : ℕ) → (fault ≡ 0 → ⊥) → placeIn fault s j ≡ record { number = fault; at = 0; len = 0 }
+place-refused fault s j h = ap (λ (n : ℕ). placed n s j) (number-fault fault s j h) ∙ placed-refused fault s j h
+
+empty-parts : (s : List ℕ) (n : ℕ) → (placeOf s n .number ≡ 0 → ⊥) → (partAt (placeOf s n) s ≡ []) × (typeAt s n ≡ []) × (nameAt s n ≡ [])
+unfolding typeAt nameAt
+empty-parts s n h =
+    let k = childNumber (bindFault deepest s) s n in
+    let z : k ≡ 0 → ⊥ = λ e. h (ap (λ (p : Place). p .number) (placed-accepted k s n e)) in
+    (ap (λ (p : Place). partAt p s) (placed-refused k s n z), simp (ne-eqb k 0 z), simp (ne-eqb k 0 z))
+
+pub lookups : Lookups
+lookups =
+    record {
+      some = has-children;
+      count = λ s cs h. count-accepted s (accepted s cs h) ∙ ap (λ (m : ℕ). record { number = 0; count = m }) (count-of s cs h);
+      place = child-place;
+      content = child-content;
+      type = child-type;
+      name = child-name;
+      none = λ s cs n h l. place-past s cs h n l;
+      numbered-or-none = numbered-or-none;
+      named = λ s cs x n c h f. ap (placeOf s) (index-named s cs h x n c f);
+      unnamed = λ s cs x h f. ap (placeOf s) (index-unnamed s cs h x f) ∙ place-past s cs h (length cs) (omega arith);
+      named-or-none = named-or-none;
+      refused = λ s n h. place-refused (bindFault deepest s) s n h;
+      refused-count = count-refused;
+      empty = empty-parts;
+    }

@@ -1,0 +1,50 @@
+-- `child::child_type` meets its contract.
+use Prim.Native.Nat.{ℕ}
+use mathlib.Core.Path.{sym, ap, _∙_}
+use borrow.Author.Tests.{eq-eqb, ne-eqb}
+use Rattle.bundle.specs.Layout.{typeOf}
+use Rattle.child.specs.Lookup.{childNumber, typeAt}
+use borrow.Author.Needs.{needs}
+use Rattle.child.proofs.child_type.Statement.{statement}
+use Rattle.child.proofs.child_type.Tie as tie
+
+bind-number-requires : tie.Need-bind-number-requires
+bind-number-requires c κs = search needs
+
+child-number-requires : tie.Need-child-number-requires
+child-number-requires c κs = search needs
+
+slice-aggregate-result : tie.Need-slice-aggregate-result
+slice-aggregate-result c = search needs
+
+returns : tie.Need-returns
+unfolding typeAt
+returns c =
+    let z = c .before .before .before .before .before .args in
+    let e = c .before .before .child-number .ensures ∙ ap (λ (n : ℕ). childNumber n (z .content .now) (z .i)) (c .before .before .before .bind-number .ensures) in
+    sym (simp (ne-eqb _ 0 (λ k. c .before .if1 .taken (e ∙ k))))
+
+headers-from-requires : tie.Need-headers-from-requires
+headers-from-requires c κs = search needs
+
+type-of-requires : tie.Need-type-of-requires
+type-of-requires c κs = search needs
+
+returns-2 : tie.Need-returns-2
+unfolding typeAt
+returns-2 c =
+    let z = c .before .before .before .before .before .before .args in
+    let e = c .before .before .before .child-number .ensures ∙ ap (λ (n : ℕ). childNumber n (z .content .now) (z .i)) (c .before .before .before .before .bind-number .ensures) in
+    c .type-of .ensures ∙ ap typeOf (c .before .headers-from .ensures) ∙ sym (simp (eq-eqb _ 0 (sym e ∙ c .before .before .if1 .left)))
+
+pub child-type-spec : {M : Type 1} → statement M
+child-type-spec =
+    tie.close
+    (tie.spec
+    bind-number-requires
+    child-number-requires
+    slice-aggregate-result
+    returns
+    headers-from-requires
+    type-of-requires
+    returns-2)

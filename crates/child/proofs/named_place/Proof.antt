@@ -1,0 +1,20 @@
+-- `child::named_place` meets its contract.
+use borrow.Author.Needs.{needs}
+use Rattle.child.proofs.named_place.Statement.{statement}
+use Rattle.child.proofs.named_place.Tie as tie
+
+bind-number-requires : tie.Need-bind-number-requires
+bind-number-requires c κs = search needs
+
+index-of-requires : tie.Need-index-of-requires
+index-of-requires c κs = search needs
+
+place-in-requires : tie.Need-place-in-requires
+place-in-requires c κs = search needs
+
+returns : tie.Need-returns
+returns c = cc
+
+pub named-place-spec : {M : Type 1} → statement M
+named-place-spec =
+    tie.close (tie.spec bind-number-requires index-of-requires place-in-requires returns)

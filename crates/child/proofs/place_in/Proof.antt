@@ -1,0 +1,47 @@
+-- `child::place_in` meets its contract: the case of a refusal, and that of a place.
+use mathlib.Core.Path.{sym, _∙_}
+use borrow.Author.Tests.{eq-eqb, ne-eqb}
+use Rattle.child.specs.Lookup.{placed}
+use Rattle.child.proofs.Laws.Lookup.{left-inside}
+use borrow.Author.Needs.{needs}
+use Rattle.child.proofs.place_in.Statement.{statement}
+use Rattle.child.proofs.place_in.Tie as tie
+
+child-number-requires : tie.Need-child-number-requires
+child-number-requires c κs = search needs
+
+returns : tie.Need-returns
+unfolding placed
+returns c =
+    let e = c .before .child-number .ensures in
+    simp (ne-eqb _ 0 (λ z. c .if1 .taken (e ∙ z))) cc
+
+data-from-requires : tie.Need-data-from-requires
+data-from-requires c κs = search needs
+
+sub-t9 : tie.Need-sub-t9
+sub-t9 c = left-inside (c .before .before .before .before .args .content .now) _ (c .data-from .ensures)
+
+headers-from-requires : tie.Need-headers-from-requires
+headers-from-requires c κs = search needs
+
+size-of-requires : tie.Need-size-of-requires
+size-of-requires c κs = search needs
+
+returns-2 : tie.Need-returns-2
+unfolding placed
+returns-2 c =
+    let e = sym (c .before .before .before .before .child-number .ensures) ∙ c .before .before .before .if1 .left in
+    simp (eq-eqb _ 0 e) cc
+
+pub place-in-spec : {M : Type 1} → statement M
+place-in-spec =
+    tie.close
+    (tie.spec
+    child-number-requires
+    returns
+    data-from-requires
+    sub-t9
+    headers-from-requires
+    size-of-requires
+    returns-2)

@@ -1,0 +1,77 @@
+-- Look-ups in a BIND content, for any bytes: where a child stands, and document 01's answers. They answer first as the reader would for
+-- the content; then 19. A refused look-up hands back an empty part.
+use Prim.Native.Nat.{ℕ, zero, suc, _-_, _*_}
+use mathlib.Core.Bool.{cond}
+use mathlib.Core.List.{List, []}
+use lib.Dec.{eqb, ltb}
+use lib.ListN.{length, drop}
+use Rattle.fields.specs.Bytes.{part, same}
+use Rattle.fields.specs.Text.{textOf, pastText}
+use Rattle.fields.specs.Checks.{orElse}
+use Rattle.bundle.specs.Layout.{count, headers, tableOf, dataOf, typeOf, sizeOf, afterBlock}
+use Rattle.content.specs.Check.{bindFault, deepest}
+use Rattle.child.specs.declared.ChildCount.{ChildCount}
+use Rattle.child.specs.declared.Place.{Place}
+
+-- ---- the children, by their number
+
+-- the headers from child j's on
+abbrev pub headersFrom : ℕ → List ℕ → List ℕ
+headersFrom j s = drop (20 * j) (headers s)
+
+-- what is left of a name table t from name j on
+unfoldable pub namesFrom : ℕ → List ℕ → List ℕ
+namesFrom zero t = t
+namesFrom (suc j) t = namesFrom j (pastText t)
+
+-- what is left of the data d from child j's on, by the headers h
+unfoldable pub dataFrom : ℕ → List ℕ → List ℕ → List ℕ
+dataFrom zero h d = d
+dataFrom (suc j) h d = dataFrom j (drop 20 h) (afterBlock (sizeOf h) d)
+
+-- the number of the first of k names that is x, or k where none is: a look-up finds the first
+unfoldable pub indexIn : ℕ → List ℕ → List ℕ → ℕ
+indexIn zero t x = 0
+indexIn (suc k) t x = cond (same (textOf t) x) 0 (suc (indexIn k (pastText t) x))
+
+abbrev pub indexOf : List ℕ → List ℕ → ℕ
+indexOf s x = indexIn (count s) (tableOf s) x
+
+-- ---- the answers
+
+-- the count, 0 where refused
+unfoldable pub countOf : List ℕ → ChildCount
+countOf s = record { number = bindFault deepest s; count = cond (eqb (bindFault deepest s) 0) (count s) 0 }
+
+-- the number of a look-up of child j in a content with this fault
+unfoldable pub childNumber : ℕ → List ℕ → ℕ → ℕ
+childNumber fault s j = orElse fault (cond (ltb j (count s)) 0 19)
+
+-- where the child's data stands in the content, and how long it is; both 0 where refused
+unfoldable pub placed : ℕ → List ℕ → ℕ → Place
+placed number s j =
+    cond (eqb number 0)
+    (record { number = 0; at = length s - length (dataFrom j (headers s) (dataOf s)); len = sizeOf (headersFrom j s) })
+    (record { number = number; at = 0; len = 0 })
+
+-- a look-up of child j in a content with this fault
+abbrev pub placeIn : ℕ → List ℕ → ℕ → Place
+placeIn fault s j = placed (childNumber fault s j) s j
+
+-- by number, and by name
+abbrev pub placeOf : List ℕ → ℕ → Place
+placeOf s j = placeIn (bindFault deepest s) s j
+
+abbrev pub namedPlace : List ℕ → List ℕ → Place
+namedPlace s x = placeOf s (indexOf s x)
+
+-- the bytes at a place: a refusal's are none
+abbrev pub partAt : Place → List ℕ → List ℕ
+partAt p s = part (p .len) (p .at) s
+
+-- the text of child j's type, and its name
+unfoldable pub typeAt : List ℕ → ℕ → List ℕ
+typeAt s j = cond (eqb (childNumber (bindFault deepest s) s j) 0) (typeOf (headersFrom j s)) []
+
+unfoldable pub nameAt : List ℕ → ℕ → List ℕ
+nameAt s j = cond (eqb (childNumber (bindFault deepest s) s j) 0) (textOf (namesFrom j (tableOf s))) []

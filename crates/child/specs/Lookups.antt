@@ -1,0 +1,77 @@
+-- What is proved of look-ups: for an accepted content they give its children, those of the tree that is written as it.
+use Prim.Native.Nat.{ℕ, _+_, _*_, _≤_}
+use mathlib.Core.Path.{_≡_}
+use mathlib.Core.Logic.{_⊎_}
+use mathlib.Core.List.{List, [], _∷_, _++_}
+use lib.ListN.{length}
+use Rattle.fields.specs.Bytes.{Bytes}
+use Rattle.fields.specs.Lists.{Each, flat}
+use Rattle.bundle.specs.Children.{Child, childData, nameTable}
+use Rattle.content.specs.Tree.{Children, bind, encode, childList, WellFormed}
+use Rattle.content.specs.Check.{bindFault, deepest}
+use Rattle.child.specs.declared.Place.{Place}
+use Rattle.child.specs.declared.Source.the-variants.{Site, Default, Neither}
+use Rattle.child.specs.Lookup.{countOf, placeOf, namedPlace, partAt, typeAt, nameAt}
+use Rattle.child.specs.Either.{eitherPlace, eitherPart}
+
+-- these are the children of an accepted content: a well formed BIND with them is written as it
+pub record HasChildren (s : List ℕ) (cs : List Child) : Type 0 where
+  pub tree : Children
+  pub well : WellFormed (bind tree) deepest
+  pub bytes : encode (bind tree) ≡ s
+  pub children : childList tree ≡ cs
+
+-- c is number n of the list
+pub record Numbered (n : ℕ) (c : Child) (cs : List Child) : Type 0 where
+  pub before : List Child
+  pub after : List Child
+  pub list : before ++ (c ∷ after) ≡ cs
+  pub number : length before ≡ n
+
+-- none of the list has the name
+abbrev pub NoneNamed : List ℕ → List Child → Type 0
+NoneNamed x cs = Each (λ c. c .name ≡ x → ⊥) cs
+
+-- c, number n, is the first of the list with the name
+pub record FirstNamed (x : List ℕ) (n : ℕ) (c : Child) (cs : List Child) : Type 0 where
+  pub numbered : Numbered n c cs
+  pub named : c .name ≡ x
+  pub first : NoneNamed x (numbered .before)
+
+-- where the data of a child stand in a content: behind the counts, the headers, the name table and the data of those before it
+abbrev pub placeAmong : List Child → List Child → Child → Place
+placeAmong cs before c =
+    record { number = 0; at = 4 + 20 * length cs + length (nameTable cs) + length (flat childData before); len = length (c .content) }
+
+pub record Lookups : Type 0 where
+  -- an accepted content has children
+  pub some : (s : List ℕ) → Bytes s → bindFault deepest s ≡ 0 → (cs : List Child) × HasChildren s cs
+  pub count : (s : List ℕ) (cs : List Child) → HasChildren s cs → countOf s ≡ record { number = 0; count = length cs }
+  -- by number
+  pub place : (s : List ℕ) (cs : List Child) (n : ℕ) (c : Child) → HasChildren s cs → (k : Numbered n c cs) → placeOf s n ≡ placeAmong cs (k .before) c
+  pub content : (s : List ℕ) (cs : List Child) (n : ℕ) (c : Child) → HasChildren s cs → Numbered n c cs → partAt (placeOf s n) s ≡ c .content
+  pub type : (s : List ℕ) (cs : List Child) (n : ℕ) (c : Child) → HasChildren s cs → Numbered n c cs → typeAt s n ≡ c .typeText
+  pub name : (s : List ℕ) (cs : List Child) (n : ℕ) (c : Child) → HasChildren s cs → Numbered n c cs → nameAt s n ≡ c .name
+  pub none : (s : List ℕ) (cs : List Child) (n : ℕ) → HasChildren s cs → length cs ≤ n → placeOf s n ≡ record { number = 19; at = 0; len = 0 }
+  pub numbered-or-none : (n : ℕ) (cs : List Child) → ((c : Child) × Numbered n c cs) ⊎ (length cs ≤ n)
+  -- by name
+  pub named : (s : List ℕ) (cs : List Child) (x : List ℕ) (n : ℕ) (c : Child) → HasChildren s cs → FirstNamed x n c cs → namedPlace s x ≡ placeOf s n
+  pub unnamed : (s : List ℕ) (cs : List Child) (x : List ℕ) → HasChildren s cs → NoneNamed x cs → namedPlace s x ≡ record { number = 19; at = 0; len = 0 }
+  pub named-or-none : (x : List ℕ) (cs : List Child) → ((n : ℕ) × (c : Child) × FirstNamed x n c cs) ⊎ NoneNamed x cs
+  -- a refused content refuses every look-up, by its number
+  pub refused : (s : List ℕ) (n : ℕ) → (bindFault deepest s ≡ 0 → ⊥) → placeOf s n ≡ record { number = bindFault deepest s; at = 0; len = 0 }
+  pub refused-count : (s : List ℕ) → (bindFault deepest s ≡ 0 → ⊥) → countOf s ≡ record { number = bindFault deepest s; count = 0 }
+  -- a refused look-up hands back an empty part
+  pub empty : (s : List ℕ) (n : ℕ) → (placeOf s n .number ≡ 0 → ⊥) → (partAt (placeOf s n) s ≡ []) × (typeAt s n ≡ []) × (nameAt s n ≡ [])
+
+-- of two bundles, by cases on both
+pub record EitherLookups : Type 0 where
+  pub site : (a b : List ℕ) (cs ds : List Child) (x : List ℕ) (n : ℕ) (c : Child) → HasChildren a cs → HasChildren b ds → FirstNamed x n c cs
+      → (eitherPlace a b x ≡ record { number = 0; source = Site; at = placeOf a n .at; len = placeOf a n .len }) × (eitherPart (eitherPlace a b x) a b ≡ c .content)
+  pub default : (a b : List ℕ) (cs ds : List Child) (x : List ℕ) (n : ℕ) (c : Child) → HasChildren a cs → HasChildren b ds → NoneNamed x cs → FirstNamed x n c ds
+      → (eitherPlace a b x ≡ record { number = 0; source = Default; at = placeOf b n .at; len = placeOf b n .len }) × (eitherPart (eitherPlace a b x) a b ≡ c .content)
+  pub neither : (a b : List ℕ) (cs ds : List Child) (x : List ℕ) → HasChildren a cs → HasChildren b ds → NoneNamed x cs → NoneNamed x ds
+      → eitherPlace a b x ≡ record { number = 19; source = Neither; at = 0; len = 0 }
+  pub site-fault : (a b x : List ℕ) → (bindFault deepest a ≡ 0 → ⊥) → eitherPlace a b x ≡ record { number = bindFault deepest a; source = Neither; at = 0; len = 0 }
+  pub default-fault : (a b x : List ℕ) → bindFault deepest a ≡ 0 → (bindFault deepest b ≡ 0 → ⊥)
+      → eitherPlace a b x ≡ record { number = bindFault deepest b; source = Neither; at = 0; len = 0 }
