@@ -1,0 +1,95 @@
+-- Children as three lists, and the loops over them. Assumes nothing.
+use Prim.Native.Nat.{ℕ, _+_, _*_, _<_}
+use mathlib.Core.Path.{_≡_, refl, sym, ap, ap₂, _∙_}
+use mathlib.Core.Bool.{Bool, true, false, _&&_}
+use mathlib.Core.List.{List, [], _∷_, _++_, map}
+use native.Mathlib.Omega.{arith}
+use denote.Ref.{RefT, now}
+use lib.ListN.{length, getD, take, drop}
+use lib.Seq.{sets, length-take-le}
+use Rattle.fields.specs.Numbers.{beBytes}
+use Rattle.fields.specs.Text.{isText, textBytes}
+use Rattle.fields.specs.Lists.{flat, all}
+use Rattle.fields.proofs.Laws.Lists.{all-step, all-stop}
+use Rattle.fields.proofs.Laws.Stores.{sets-flat-next}
+use Rattle.bundle.specs.Children.{Child, childHeader}
+use Rattle.bundle.proofs.Laws.Written.{length-headers}
+use Rattle.content.specs.Contents.{firstFault}
+use Rattle.content.proofs.Laws.Faults.{noChild, first-stop, first-next}
+use Rattle.bind_writer.specs.Lists.{children, typesOf, namesOf, contentsOf, SameCount}
+use Rattle.bind_writer.specs.Writer.{typeGood, textsGood, childFault}
+use Rattle.bind_writer.proofs.Laws.Slices.{none, length-given, given-at}
+
+-- ---- the lists of the children that three lists give, and the children of their own lists
+
+pub lists-of : (ts ns ds : List (List ℕ)) → SameCount ts ns ds
+    → (typesOf (children ts ns ds) ≡ ts) × (namesOf (children ts ns ds) ≡ ns) × (contentsOf (children ts ns ds) ≡ ds)
+unfolding children
+lists-of [] [] [] h = (refl, refl, refl)
+lists-of [] (n ∷ ns) ds h = absurd (omega (arith, h .names))
+lists-of [] [] (d ∷ ds) h = absurd (omega (arith, h .contents))
+lists-of (t ∷ ts) [] ds h = absurd (omega (arith, h .names))
+lists-of (t ∷ ts) (n ∷ ns) [] h = absurd (omega (arith, h .contents))
+lists-of (t ∷ ts) (n ∷ ns) (d ∷ ds) h =
+    let r = lists-of ts ns ds (record { names = omega (arith, h .names); contents = omega (arith, h .contents) }) in (
+      ap {B = List (List ℕ)} (λ l. t ∷ l) (r .0),
+      ap {B = List (List ℕ)} (λ l. n ∷ l) (r .1),
+      ap {B = List (List ℕ)} (λ l. d ∷ l) (r .2),
+    )
+
+pub children-of : (cs : List Child) → children (typesOf cs) (namesOf cs) (contentsOf cs) ≡ cs
+unfolding children
+children-of [] = refl
+children-of (c ∷ cs) = ap {B = List Child} (λ l. c ∷ l) (children-of cs)
+
+-- ---- a loop over the children by two of their lists
+
+module _ (ts : List (RefT (List ℕ))) (i : ℕ) (h : i < length ts) (cs : List Child) (p : typesOf cs ≡ map now ts) where
+  below : i < length cs
+  below = omega (arith, length-given (λ c. c .typeText) cs ts p)
+
+  type-at : getD cs i noChild .typeText ≡ now (getD ts i none)
+  type-at = given-at (λ c. c .typeText) cs ts p i noChild refl
+
+  -- by types and names: r and n say of the texts at i that they are good
+  module _ (ns : List (RefT (List ℕ))) (q : namesOf cs ≡ map now ns) where
+    name-at : getD cs i noChild .name ≡ now (getD ns i none)
+    name-at = given-at (λ c. c .name) cs ns q i noChild refl
+
+    texts-at : (r n : Bool) → typeGood (now (getD ts i none)) ≡ r → isText (now (getD ns i none)) ≡ n → textsGood (getD cs i noChild) ≡ (r && n)
+    texts-at r n a b = ap₂ (λ (x y : Bool). x && y) (ap typeGood type-at ∙ a) (ap isText name-at ∙ b)
+
+    pub texts-next : typeGood (now (getD ts i none)) ≡ true → isText (now (getD ns i none)) ≡ true
+        → all textsGood (drop i cs) ≡ all textsGood (drop (i + 1) cs)
+    texts-next a b = all-step textsGood cs i noChild below (texts-at true true a b)
+
+    pub texts-type : typeGood (now (getD ts i none)) ≡ false → all textsGood (drop i cs) ≡ false
+    texts-type a = all-stop textsGood cs i noChild below (texts-at false (isText (now (getD ns i none))) a refl)
+
+    pub texts-name : typeGood (now (getD ts i none)) ≡ true → isText (now (getD ns i none)) ≡ false → all textsGood (drop i cs) ≡ false
+    texts-name a b = all-stop textsGood cs i noChild below (texts-at true false a b)
+
+  -- by types and contents
+  module _ (ds : List (RefT (List ℕ))) (q : contentsOf cs ≡ map now ds) where
+    content-at : getD cs i noChild .content ≡ now (getD ds i none)
+    content-at = given-at (λ c. c .content) cs ds q i noChild refl
+
+    module _ (r : ℕ) (e : r ≡ childFault (record { typeText = now (getD ts i none); name = []; content = now (getD ds i none) })) where
+      fault-at : childFault (getD cs i noChild) ≡ r
+      fault-at = ap₂ (λ (t d : List ℕ). childFault (record { typeText = t; name = []; content = d })) type-at content-at ∙ sym e
+
+      pub faults-stop : (r ≡ 0 → ⊥) → firstFault childFault (drop i cs) ≡ r
+      faults-stop n = first-stop childFault cs i below (λ z. n (sym fault-at ∙ z)) ∙ fault-at
+
+      pub faults-next : r ≡ 0 → firstFault childFault (drop i cs) ≡ firstFault childFault (drop (i + 1) cs)
+      faults-next z = first-next childFault cs i below (fault-at ∙ z)
+
+    pub headers-next : (out : List ℕ)
+        → sets (sets out 2 (flat childHeader (take i cs))) (2 + 20 * i) (textBytes 12 (now (getD ts i none)) ++ beBytes 8 (length (now (getD ds i none))))
+        ≡ sets out 2 (flat childHeader (take (i + 1) cs))
+    unfolding childHeader
+    headers-next out =
+        let k : 2 + 20 * i ≡ 2 + length (flat childHeader (take i cs)) = omega (arith, length-headers (take i cs), length-take-le i cs (omega (arith, below))) in
+        ap₂ (λ (n : ℕ) (x : List ℕ). sets (sets out 2 (flat childHeader (take i cs))) n x) k
+        (ap₂ (λ (t d : List ℕ). textBytes 12 t ++ beBytes 8 (length d)) (sym type-at) (sym content-at))
+        ∙ sets-flat-next childHeader out 2 cs i noChild below

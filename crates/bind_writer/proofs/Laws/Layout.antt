@@ -1,0 +1,47 @@
+-- The check of the three lists: what it says where it passes, and that it fails otherwise. Assumes nothing.
+use Prim.Native.Nat.{ℕ}
+use mathlib.Core.Path.{_≡_, refl}
+use mathlib.Core.Bool.{Bool, true, false}
+use mathlib.Core.List.{List}
+use lib.Dec.{eqb}
+use lib.ListN.{length}
+use borrow.Author.Tests.{eqb-true, eq-eqb}
+use Rattle.fields.specs.Lists.{all}
+use Rattle.fields.proofs.Laws.Checks.{and-split, and-join}
+use Rattle.bind_writer.specs.Lists.{children, SameCount}
+use Rattle.bind_writer.specs.Writer.{textsGood, countFits, tableFits, layoutGood}
+
+pub record Laid (ts ns ds : List (List ℕ)) : Type 0 where
+  pub count : SameCount ts ns ds
+  pub few : countFits ts ≡ true
+  pub texts : all textsGood (children ts ns ds) ≡ true
+  pub table : tableFits (children ts ns ds) ≡ true
+
+module _ (ts ns ds : List (List ℕ)) where
+  pub laid : layoutGood ts ns ds ≡ true → Laid ts ns ds
+  unfolding layoutGood
+  laid h =
+      let a = and-split (eqb (length ns) (length ts)) _ h in
+      let b = and-split (eqb (length ds) (length ts)) _ (a .1) in
+      let k = and-split (countFits ts) _ (b .1) in
+      let t = and-split (all textsGood (children ts ns ds)) _ (k .1) in
+      record {
+        count = record { names = eqb-true (length ns) (length ts) (a .0); contents = eqb-true (length ds) (length ts) (b .0) };
+        few = k .0;
+        texts = t .0;
+        table = t .1;
+      }
+
+  pub laid-good : Laid ts ns ds → layoutGood ts ns ds ≡ true
+  unfolding layoutGood
+  laid-good l =
+      and-join _ _ (eq-eqb (length ns) (length ts) (l .count .names))
+      (and-join _ _ (eq-eqb (length ds) (length ts) (l .count .contents))
+      (and-join _ _ (l .few) (and-join _ _ (l .texts) (l .table))))
+
+  pub not-laid : (Laid ts ns ds → ⊥) → layoutGood ts ns ds ≡ false
+  not-laid n = go (layoutGood ts ns ds) refl
+    where
+      go : (b : Bool) → layoutGood ts ns ds ≡ b → layoutGood ts ns ds ≡ false
+      go true e = absurd (n (laid e))
+      go false e = e

@@ -1,0 +1,84 @@
+-- `bind_writer::data_fits` meets its contract. The loop's invariant: the first `i` contents and `left` make up the room.
+use Prim.Native.Nat.{_+_, _-_, _≤_}
+use mathlib.Core.Path.{_≡_, ap, sym}
+use mathlib.Core.List.{map}
+use native.Mathlib.Omega.{arith}
+use denote.Ref.{now}
+use lib.ListN.{length, take, getD}
+use borrow.Author.Tests.{le-leb, lt-leb}
+use borrow.Author.Needs.{needs}
+use Rattle.fields.specs.Lists.{flat}
+use Rattle.fields.proofs.Laws.Lists.{flat-none}
+use Rattle.bundle.specs.Children.{padded}
+use Rattle.bind_writer.proofs.Laws.Slices.{none, slices-all, length-slices-next, length-slices-le}
+use Rattle.bundle.proofs.Laws.Children.{length-padded}
+use Rattle.bind_writer.proofs.data_fits.Statement.{statement}
+use Rattle.bind_writer.proofs.data_fits.Tie as tie
+
+abbrev Inv-loop : tie.InvT-loop
+Inv-loop contents room left₀ i₀ left i = (i ≤ length contents) × (length (flat padded (take i (map now contents))) + left ≡ room)
+
+abbrev μ-loop : tie.MeasureT-loop
+μ-loop contents room left₀ i₀ left i = length contents - i
+
+loop-holds : tie.Need-loop-holds Inv-loop μ-loop
+loop-holds c = let e = ap length (flat-none padded (map now (c .args .contents .now))) in (omega arith, omega arith)
+
+mul-content : tie.Need-mul-content Inv-loop μ-loop
+mul-content c = search needs
+
+shared-slice-copy-out-content : tie.Need-shared-slice-copy-out-content Inv-loop μ-loop
+shared-slice-copy-out-content c = search needs
+
+returns : tie.Need-returns Inv-loop μ-loop
+returns c =
+    let l = c .before .before .before .loop in
+    let ps = c .before .before .before .before .args .contents .now in
+    let m = length-slices-le padded ps (l .i) (omega arith) in
+    sym (lt-leb (length (flat padded (map now ps))) (c .before .before .before .before .args .room) (omega (arith, length-padded (now (getD ps (l .i) none)))))
+
+returns-2 : tie.Need-returns-2 Inv-loop μ-loop
+returns-2 c =
+    let l = c .before .before .before .before .loop in
+    let ps = c .before .before .before .before .before .args .contents .now in
+    let m = length-slices-le padded ps (l .i) (omega arith) in
+    sym (lt-leb (length (flat padded (map now ps))) (c .before .before .before .before .before .args .room) (omega (arith, length-padded (now (getD ps (l .i) none)))))
+
+sub-left : tie.Need-sub-left Inv-loop μ-loop
+sub-left c = search needs
+
+add-i : tie.Need-add-i Inv-loop μ-loop
+add-i c = search needs
+
+loop-less : tie.Need-loop-less Inv-loop μ-loop
+loop-less c = search needs
+
+loop-again : tie.Need-loop-again Inv-loop μ-loop
+loop-again c =
+    let l = c .before .before .before .before .loop in
+    let ps = c .before .before .before .before .before .args .contents .now in
+    let s = length-slices-next padded ps (l .i) (omega arith) in
+    (omega arith, omega (arith, length-padded (now (getD ps (l .i) none))))
+
+returns-3 : tie.Need-returns-3 Inv-loop μ-loop
+returns-3 c =
+    let ps = c .before .before .args .contents .now in
+    let s = ap length (slices-all padded ps (c .before .loop .i) (omega arith)) in
+    sym (le-leb (length (flat padded (map now ps))) (c .before .before .args .room) (omega arith))
+
+pub data-fits-spec : {M : Type 1} → statement M
+data-fits-spec =
+    tie.close
+    (tie.spec
+    Inv-loop
+    μ-loop
+    loop-holds
+    mul-content
+    shared-slice-copy-out-content
+    returns
+    returns-2
+    sub-left
+    add-i
+    loop-less
+    loop-again
+    returns-3)

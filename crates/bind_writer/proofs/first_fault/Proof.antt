@@ -1,0 +1,86 @@
+-- `bind_writer::first_fault` meets its contract. The loop's invariant: the first fault of all children is that of those from place `i` on.
+use Prim.Native.Nat.{_-_, _≤_}
+use mathlib.Core.Path.{_≡_, refl, sym, _∙_}
+use mathlib.Core.List.{map}
+use native.Mathlib.Omega.{arith}
+use denote.Ref.{now}
+use lib.ListN.{length, drop}
+use borrow.Author.Needs.{needs}
+use Rattle.content.specs.Contents.{firstFault}
+use Rattle.bind_writer.specs.Lists.{WithContents}
+use Rattle.bind_writer.specs.Writer.{childFault}
+use Rattle.bind_writer.proofs.Laws.Slices.{length-given}
+use Rattle.content.proofs.Laws.Faults.{first-end}
+use Rattle.bind_writer.proofs.Laws.Children.{faults-stop, faults-next}
+use Rattle.bind_writer.proofs.first_fault.Statement.{statement}
+use Rattle.bind_writer.proofs.first_fault.Tie as tie
+
+abbrev Inv-loop : tie.InvT-loop
+Inv-loop types contents i₀ i =
+    (i ≤ length types) × WithContents (map now types) (map now contents) (λ cs. firstFault childFault cs ≡ firstFault childFault (drop i cs))
+
+abbrev μ-loop : tie.MeasureT-loop
+μ-loop types contents i₀ i = length types - i
+
+loop-holds : tie.Need-loop-holds Inv-loop μ-loop
+loop-holds c = (omega arith, λ cs p q. refl)
+
+mul-text : tie.Need-mul-text Inv-loop μ-loop
+mul-text c = search needs
+
+shared-slice-copy-out-text : tie.Need-shared-slice-copy-out-text Inv-loop μ-loop
+shared-slice-copy-out-text c = search needs
+
+mul-content : tie.Need-mul-content Inv-loop μ-loop
+mul-content c = search needs
+
+shared-slice-copy-out-content : tie.Need-shared-slice-copy-out-content Inv-loop μ-loop
+shared-slice-copy-out-content c = search needs
+
+child-number-requires : tie.Need-child-number-requires Inv-loop μ-loop
+child-number-requires c κs = search needs
+
+returns : tie.Need-returns Inv-loop μ-loop
+returns c =
+    let a = c .before .before .before .before .before .before .args in
+    let l = c .before .before .before .before .before .loop in
+    let n = c .before .child-number in
+    λ cs p q. sym (l .inv .1 cs p q ∙ faults-stop (a .types .now) (l .i) (omega arith) cs p (a .contents .now) q (n .result) (n .ensures) (c .if1 .taken))
+
+add-i : tie.Need-add-i Inv-loop μ-loop
+add-i c = search needs
+
+loop-less : tie.Need-loop-less Inv-loop μ-loop
+loop-less c = search needs
+
+loop-again : tie.Need-loop-again Inv-loop μ-loop
+loop-again c =
+    let a = c .before .before .before .before .before .before .args in
+    let l = c .before .before .before .before .before .loop in
+    let n = c .before .child-number in (
+      omega arith,
+      λ cs p q. l .inv .1 cs p q ∙ faults-next (a .types .now) (l .i) (omega arith) cs p (a .contents .now) q (n .result) (n .ensures) (c .if1 .left),
+    )
+
+returns-2 : tie.Need-returns-2 Inv-loop μ-loop
+returns-2 c =
+    let l = c .before .loop in
+    λ cs p q. sym (l .inv .1 cs p q ∙ first-end childFault cs (l .i) (omega (arith, length-given (λ c. c .typeText) cs (c .before .before .args .types .now) p)))
+
+pub first-fault-spec : {M : Type 1} → statement M
+first-fault-spec =
+    tie.close
+    (tie.spec
+    Inv-loop
+    μ-loop
+    loop-holds
+    mul-text
+    shared-slice-copy-out-text
+    mul-content
+    shared-slice-copy-out-content
+    child-number-requires
+    returns
+    add-i
+    loop-less
+    loop-again
+    returns-2)

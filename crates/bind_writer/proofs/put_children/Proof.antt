@@ -1,0 +1,105 @@
+-- `bind_writer::put_children` meets its contract: the four parts of the encoding are one run of bytes.
+use Prim.Native.Nat.{ℕ, _+_, _*_}
+use mathlib.Core.Path.{_≡_, ap, sym, _∙_}
+use mathlib.Core.List.{List, map, _++_}
+use native.Mathlib.Omega.{arith}
+use denote.Ref.{now}
+use lib.ListN.{length, length-map}
+use lib.Seq.{sets}
+use borrow.Author.Tests.{leb-true}
+use borrow.Author.Needs.{needs}
+use Rattle.fields.specs.Numbers.{beBytes}
+use Rattle.fields.specs.Lists.{flat}
+use Rattle.bundle.specs.Children.{padded, nameTable, childHeader}
+use Rattle.bind_writer.specs.Lists.{children, ended}
+use Rattle.bind_writer.proofs.Laws.Slices.{count-same}
+use Rattle.bind_writer.proofs.Laws.Children.{lists-of}
+use Rattle.bind_writer.proofs.Laws.Layout.{laid}
+use Rattle.bind_writer.proofs.Laws.Encoding.{table-given, length-given, encode-stores}
+use Rattle.bind_writer.proofs.put_children.Statement.{statement}
+use Rattle.bind_writer.proofs.put_children.Tie as tie
+
+cast-put16 : tie.Need-cast-put16
+cast-put16 c =
+    let a = c .before .args in
+    let g = laid (map now (a .types .now)) (map now (a .names .now)) (map now (a .contents .now)) (c .before .pre .0) in
+    omega (arith, leb-true (length (map now (a .types .now))) _ (g .few), length-map (a .types .now) now)
+
+put16-requires : tie.Need-put16-requires
+put16-requires c κs = search needs
+
+put-headers-requires : tie.Need-put-headers-requires
+put-headers-requires c κs =
+    let a = c .before .before .before .before .before .before .args in
+    let ts = a .types .now in
+    let ns = a .names .now in
+    let ds = a .contents .now in
+    let g = laid (map now ts) (map now ns) (map now ds) (c .before .before .before .before .before .before .pre .0) in
+    let e = length-given (map now ts) (map now ns) (map now ds) (g .count) in
+    (count-same ts ns ds (g .count) .1, omega (arith, c .before .before .before .before .before .before .pre .1, length-map ts now))
+
+mul-put-table : tie.Need-mul-put-table
+mul-put-table c = search needs
+
+add-put-table : tie.Need-add-put-table
+add-put-table c = search needs
+
+put-table-requires : tie.Need-put-table-requires
+put-table-requires c κs =
+    let a = c .before .before .before .before .before .before .before .before .before .before .args in
+    let ts = map now (a .types .now) in
+    let ns = map now (a .names .now) in
+    let ds = map now (a .contents .now) in
+    let g = laid ts ns ds (c .before .before .before .before .before .before .before .before .before .before .pre .0) in
+    let e = length-given ts ns ds (g .count) in
+    (omega (arith, leb-true (length (nameTable (children ts ns ds))) _ (g .table), ap length (table-given ts ns ds (g .count))), omega (arith, c .before .before .before .before .before .before .before .before .before .before .pre .1, length-map (a .types .now) now))
+
+put-contents-requires : tie.Need-put-contents-requires
+put-contents-requires c κs =
+    let a = c .before .before .before .before .before .before .before .before .before .before .before .before .before .before .args in
+    let ts = map now (a .types .now) in
+    let ns = map now (a .names .now) in
+    let ds = map now (a .contents .now) in
+    let g = laid ts ns ds (c .before .before .before .before .before .before .before .before .before .before .before .before .before .before .pre .0) in
+    let e = length-given ts ns ds (g .count) in
+    omega (arith, c .before .before .before .before .before .before .before .before .before .before .before .before .before .before .pre .1, c .before .before .before .put-table .ensures .0, length-map (a .types .now) now)
+
+same-length : tie.Need-same-length
+same-length c = search needs
+
+returns : tie.Need-returns
+returns c =
+    let a = c .before .before .before .before .before .before .before .before .before .before .before .before .before .before .before .before .before .args in
+    let ts = map now (a .types .now) in
+    let ns = map now (a .names .now) in
+    let ds = map now (a .contents .now) in
+    let g = laid ts ns ds (c .before .before .before .before .before .before .before .before .before .before .before .before .before .before .before .before .before .pre .0) in
+    let e = length-given ts ns ds (g .count) in
+    let p = lists-of ts ns ds (g .count) in
+    let n = length-map (a .types .now) now in
+    let cs = children ts ns ds in
+    let heads = c .before .before .before .before .before .before .before .before .before .before .put-headers .ensures cs (p .0) (p .2) in
+    let table = c .before .before .before .before .before .before .put-table in
+    let body = c .before .before .put-contents .ensures in
+    let x = beBytes 2 (length (padded (flat ended ns))) ++ padded (flat ended ns) in
+    let end : table .result ≡ 2 + 20 * length ts + (2 + length (padded (flat ended ns))) = omega (arith, table .ensures .0) in (
+      omega (arith, e, body .0, end),
+      body .1
+          ∙ ap (λ (l : List ℕ). sets l (table .result) (flat padded ds)) (table .ensures .1 ∙ ap (λ (l : List ℕ). sets l (2 + 20 * length (a .types .now)) x) (heads ∙ ap (λ (l : List ℕ). sets l 2 (flat childHeader cs)) (c .before .before .before .before .before .before .before .before .before .before .before .before .before .before .put16 .ensures)))
+          ∙ ap (λ (m : ℕ). sets (sets (sets (sets (a .out .now) 0 (beBytes 2 m)) 2 (flat childHeader cs)) (2 + 20 * m) x) (table .result) (flat padded ds)) (sym n)
+          ∙ encode-stores ts ns ds (g .count) (a .out .now) (table .result) end,
+    )
+
+pub put-children-spec : {M : Type 1} → statement M
+put-children-spec =
+    tie.close
+    (tie.spec
+    cast-put16
+    put16-requires
+    put-headers-requires
+    mul-put-table
+    add-put-table
+    put-table-requires
+    put-contents-requires
+    same-length
+    returns)

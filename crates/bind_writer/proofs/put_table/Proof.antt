@@ -1,0 +1,71 @@
+-- `bind_writer::put_table` meets its contract: size, names and pad are one run of bytes.
+use Prim.Native.Nat.{ℕ, _+_, _%_}
+use mathlib.Core.Path.{_≡_, ap, _∙_}
+use mathlib.Core.List.{List, map}
+use native.Mathlib.Omega.{arith}
+use denote.Ref.{now}
+use lib.ListN.{length, replicate}
+use lib.Seq.{sets}
+use borrow.Author.Needs.{needs}
+use Rattle.fields.specs.Lists.{flat}
+use Rattle.bind_writer.specs.Lists.{ended}
+use Rattle.bundle.proofs.Laws.Children.{length-padded}
+use Rattle.bind_writer.proofs.Laws.Encoding.{table-stores}
+use Rattle.bind_writer.proofs.put_table.Statement.{statement}
+use Rattle.bind_writer.proofs.put_table.Tie as tie
+
+names-len-requires : tie.Need-names-len-requires
+names-len-requires c κs = search needs
+
+add-put16 : tie.Need-add-put16
+add-put16 c = search needs
+
+cast-put16 : tie.Need-cast-put16
+cast-put16 c = omega (arith, c .names-len .ensures, c .before .before .pre .0, length-padded (flat ended (map now (c .before .before .args .names .now))))
+
+put16-requires : tie.Need-put16-requires
+put16-requires c κs = search needs
+
+add-put-names : tie.Need-add-put-names
+add-put-names c = search needs
+
+put-names-requires : tie.Need-put-names-requires
+put-names-requires c κs = omega (arith, c .before .before .before .before .before .before .before .pre .1, length-padded (flat ended (map now (c .before .before .before .before .before .before .before .args .names .now))))
+
+put-pad-requires : tie.Need-put-pad-requires
+put-pad-requires c κs = search needs
+
+add-result : tie.Need-add-result
+add-result c = omega (arith, c .before .before .before .before .before .before .put-names .ensures .0, c .before .before .before .before .before .before .before .before .before .before .before .before .names-len .ensures, c .before .before .before .before .before .before .before .before .before .before .before .before .before .before .pre .0, c .before .before .before .before .before .before .before .before .before .before .before .before .before .before .pre .1, length-padded (flat ended (map now (c .before .before .before .before .before .before .before .before .before .before .before .before .before .before .args .names .now))))
+
+same-length : tie.Need-same-length
+same-length c = search needs
+
+returns : tie.Need-returns
+returns c =
+    let a = c .before .before .before .before .before .before .before .before .before .before .before .before .before .before .args in
+    let l = flat ended (map now (a .names .now)) in
+    let s = c .before .before .before .before .before .before .before .before .before .before .before .before .names-len in
+    let n = c .before .before .before .before .before .before .put-names in
+    let k : s .result ≡ length l = omega (arith, s .ensures, c .before .before .before .before .before .before .before .before .before .before .before .before .before .before .pre .0, length-padded l) in
+    let end : n .result ≡ a .at + 2 + length l = n .ensures .0 in (
+      omega (arith, k, length-padded l),
+      c .before .before .put-pad .ensures
+          ∙ ap (λ (x : List ℕ). sets x (n .result) (replicate (s .result % 2) 0)) (n .ensures .1 ∙ ap (λ (x : List ℕ). sets x (a .at + 2) l) (c .before .before .before .before .before .before .before .before .before .before .put16 .ensures))
+          ∙ table-stores l (a .out .now) (a .at) (s .result) (n .result) k end,
+    )
+
+pub put-table-spec : {M : Type 1} → statement M
+put-table-spec =
+    tie.close
+    (tie.spec
+    names-len-requires
+    add-put16
+    cast-put16
+    put16-requires
+    add-put-names
+    put-names-requires
+    put-pad-requires
+    add-result
+    same-length
+    returns)

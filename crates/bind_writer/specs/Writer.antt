@@ -1,0 +1,66 @@
+-- The writer of a BIND content: its checks in document 01's order, its answer, and the buffer that it leaves.
+use Prim.Native.Nat.{ℕ}
+use mathlib.Core.Bool.{Bool, cond, _&&_}
+use mathlib.Core.List.{List}
+use lib.Dec.{eqb, leb}
+use lib.ListN.{length}
+use Rattle.fields.specs.Lists.{all}
+use Rattle.fields.specs.Text.{isText}
+use Rattle.fields.specs.Checks.{orElse}
+use Rattle.fields.specs.Answer.{writtenOf, roomFault, outAfter}
+use Rattle.fields.specs.declared.Written.{Written}
+use Rattle.bundle.specs.Children.{Child, nameTable, encodeChildren}
+use Rattle.content.specs.Check.{contentFault}
+use Rattle.content.specs.Contents.{firstFault}
+use Rattle.bind_writer.specs.Lists.{children}
+
+-- the type is a text of at most 12 bytes
+abbrev pub typeGood : List ℕ → Bool
+typeGood t = leb (length t) 12 && isText t
+
+-- and the name is a text
+abbrev pub textsGood : Child → Bool
+textsGood c = typeGood (c .typeText) && isText (c .name)
+
+-- the count and the name table, with its pad, fit their size fields
+abbrev pub countFits : List (List ℕ) → Bool
+countFits ts = leb (length ts) 65535
+
+abbrev pub tableFits : List Child → Bool
+tableFits cs = leb (length (nameTable cs)) 65535
+
+-- three lists of one length, of texts that fit, not too many and not too long together
+unfoldable pub layoutGood : List (List ℕ) → List (List ℕ) → List (List ℕ) → Bool
+layoutGood ts ns ds =
+    eqb (length ns) (length ts)
+    && (eqb (length ds) (length ts)
+    && (countFits ts
+    && (all textsGood (children ts ns ds)
+    && tableFits (children ts ns ds))))
+
+-- 10 for each fault of the layout
+unfoldable pub listsFault : List (List ℕ) → List (List ℕ) → List (List ℕ) → ℕ
+listsFault ts ns ds = cond (layoutGood ts ns ds) 0 10
+
+-- the BIND that is written is level 1, so a child of it has three levels left
+abbrev pub childLevels : ℕ
+childLevels = 3
+
+abbrev pub childFault : Child → ℕ
+childFault c = contentFault childLevels (c .typeText) (c .content)
+
+-- check 20
+abbrev pub spaceFault : List (List ℕ) → List (List ℕ) → List (List ℕ) → ℕ → ℕ
+spaceFault ts ns ds room = roomFault (length (encodeChildren (children ts ns ds))) room
+
+-- the layout, then the children in order, then 20
+unfoldable pub writeFault : List (List ℕ) → List (List ℕ) → List (List ℕ) → ℕ → ℕ
+writeFault ts ns ds room =
+    orElse (listsFault ts ns ds) (orElse (firstFault childFault (children ts ns ds)) (spaceFault ts ns ds room))
+
+-- the answer, and the buffer
+unfoldable pub bindWritten : List (List ℕ) → List (List ℕ) → List (List ℕ) → ℕ → Written
+bindWritten ts ns ds room = writtenOf (writeFault ts ns ds room) (length (encodeChildren (children ts ns ds)))
+
+unfoldable pub bindOut : List (List ℕ) → List (List ℕ) → List (List ℕ) → List ℕ → List ℕ
+bindOut ts ns ds out = outAfter (writeFault ts ns ds (length out)) (encodeChildren (children ts ns ds)) out

@@ -1,0 +1,296 @@
+// The writer of a BIND content, from its children's types, names and contents. It refuses before the first byte is written, and makes no
+// sum of lengths that could wrap: what is left is counted down.
+ghost use mathlib.Core.Path.{_≡_};
+ghost use mathlib.Core.Bool.{true};
+ghost use mathlib.Core.List.{map, _++_};
+ghost use Prim.Native.Nat.{_+_, _*_, _%_, _≤_, min};
+ghost use lib.Dec.{leb};
+ghost use lib.ListN.{length, replicate};
+ghost use lib.Seq.{sets};
+ghost use Rattle.fields.specs.Lists.{all, flat};
+ghost use Rattle.fields.specs.Numbers.{beBytes};
+ghost use Rattle.fields.specs.Text.{textBytes};
+ghost use Rattle.bundle.specs.Children.{padded, childHeader, encodeChildren};
+ghost use Rattle.content.specs.Check.{contentFault};
+ghost use Rattle.content.specs.Contents.{firstFault};
+ghost use Rattle.bind_writer.specs.Lists.{children, WithNames, WithContents, ended};
+ghost use Rattle.bind_writer.specs.Writer.{typeGood, textsGood, layoutGood, childLevels, childFault, spaceFault, writeFault, bindWritten, bindOut};
+
+// Is it a text that a CTYPE of 12 bytes holds?
+fn type_good(text: &[u8]) -> bool
+    ensures { λ r. ⌜ r ≡ typeGood (now (text .entry)) ⌝ }
+{
+    if 12 < text.len() {
+        return false;
+    }
+    fields::text::is_text(text)
+}
+
+// Are the types and the names of the children such texts? A name has no limit of its own.
+fn texts_good(types: &[&[u8]], names: &[&[u8]]) -> bool
+    requires { ⌜ length (now names) ≡ length (now types) ⌝ }
+    ensures { λ r. ⌜ WithNames (map now (now (types .entry))) (map now (now (names .entry))) (λ cs. r ≡ all textsGood cs) ⌝ }
+{
+    let mut i = 0;
+    while i < types.len() {
+        let text = types[i];
+        let name = names[i];
+        if !type_good(text) {
+            return false;
+        }
+        if !fields::text::is_text(name) {
+            return false;
+        }
+        i += 1;
+    }
+    true
+}
+
+// The length of the names, each ended by one 0; 65,536 where it is more than that.
+fn names_len(names: &[&[u8]]) -> usize
+    ensures { λ r. ⌜ r ≡ min (length (flat ended (map now (now (names .entry))))) 65536 ⌝ }
+{
+    let mut sum: usize = 0;
+    let mut i = 0;
+    while i < names.len() {
+        let name = names[i];
+        let n = name.len();
+        if 65535 - sum <= n {
+            return 65536;
+        }
+        sum = sum + n + 1;
+        i += 1;
+    }
+    sum
+}
+
+// The lists are of one length, hold texts, and their count and name table fit two bytes each.
+fn layout_good(types: &[&[u8]], names: &[&[u8]], contents: &[&[u8]]) -> bool
+    ensures { λ r. ⌜ r ≡ layoutGood (map now (now (types .entry))) (map now (now (names .entry))) (map now (now (contents .entry))) ⌝ }
+{
+    if names.len() != types.len() {
+        return false;
+    }
+    if contents.len() != types.len() {
+        return false;
+    }
+    if 65535 < types.len() {
+        return false;
+    }
+    if !texts_good(types, names) {
+        return false;
+    }
+    let n = names_len(names);
+    if 65535 < n + n % 2 {
+        return false;
+    }
+    true
+}
+
+// A child of the BIND that is written: a BIND there is level 2.
+fn child_number(text: &[u8], content: &[u8]) -> u8
+    ensures { λ r. ⌜ r ≡ contentFault childLevels (now (text .entry)) (now (content .entry)) ⌝ }
+{
+    content::nested_number(text, content)
+}
+
+// The first fault among the children's contents, or 0.
+fn first_fault(types: &[&[u8]], contents: &[&[u8]]) -> u8
+    requires { ⌜ length (now contents) ≡ length (now types) ⌝ }
+    ensures { λ r. ⌜ WithContents (map now (now (types .entry))) (map now (now (contents .entry))) (λ cs. r ≡ firstFault childFault cs) ⌝ }
+{
+    let mut i = 0;
+    while i < types.len() {
+        let text = types[i];
+        let content = contents[i];
+        let fault = child_number(text, content);
+        if fault != 0 {
+            return fault;
+        }
+        i += 1;
+    }
+    0
+}
+
+// Do the contents, each with its pad, take at most so many bytes?
+fn data_fits(contents: &[&[u8]], room: usize) -> bool
+    ensures { λ r. ⌜ r ≡ leb (length (flat padded (map now (now (contents .entry))))) room ⌝ }
+{
+    let mut left = room;
+    let mut i = 0;
+    while i < contents.len() {
+        let content = contents[i];
+        let n = content.len();
+        if left < n {
+            return false;
+        }
+        if left - n < n % 2 {
+            return false;
+        }
+        left = left - n - n % 2;
+        i += 1;
+    }
+    true
+}
+
+// Check 20. What stands before the data is short, as the layout is good.
+fn space_number(types: &[&[u8]], names: &[&[u8]], contents: &[&[u8]], room: usize) -> u8
+    requires { ⌜ layoutGood (map now (now types)) (map now (now names)) (map now (now contents)) ≡ true ⌝ }
+    ensures { λ r. ⌜ r ≡ spaceFault (map now (now (types .entry))) (map now (now (names .entry))) (map now (now (contents .entry))) room ⌝ }
+{
+    let n = names_len(names);
+    let front = 4 + 20 * types.len() + n + n % 2;
+    if room < front {
+        return 20;
+    }
+    if !data_fits(contents, room - front) {
+        return 20;
+    }
+    0
+}
+
+// All checks, in order.
+fn write_fault(types: &[&[u8]], names: &[&[u8]], contents: &[&[u8]], room: usize) -> u8
+    ensures { λ r. ⌜ r ≡ writeFault (map now (now (types .entry))) (map now (now (names .entry))) (map now (now (contents .entry))) room ⌝ }
+{
+    if !layout_good(types, names, contents) {
+        return 10;
+    }
+    let fault = first_fault(types, contents);
+    if fault != 0 {
+        return fault;
+    }
+    space_number(types, names, contents, room)
+}
+
+// Writes one 0 where n is odd.
+fn put_pad(n: usize, at: usize, out: &mut [u8])
+    ensures { λ _. ⌜ now (out .exit) ≡ sets (now (out .entry)) at (replicate (n % 2) 0) ⌝ }
+{
+    if n % 2 == 0 {
+        return;
+    }
+    fields::number::put8(0, at, out);
+}
+
+// Writes CTYPE and CSIZE. On the target a length has 64 bits, so it fits the 8 bytes of CSIZE and the cast keeps it.
+fn put_header(text: &[u8], size: usize, at: usize, out: &mut [u8])
+    requires { ⌜ at + 20 ≤ length (now out) ⌝ }
+    ensures { λ _. ⌜ now (out .exit) ≡ sets (now (out .entry)) at (textBytes 12 (now (text .entry)) ++ beBytes 8 size) ⌝ }
+{
+    fields::text::put_text12(text, at, out);
+    fields::number::put64(size as u64, at + 12, out);
+}
+
+// Writes the headers, from behind N_CHILD on.
+fn put_headers(types: &[&[u8]], contents: &[&[u8]], out: &mut [u8])
+    requires { ⌜ (length (now contents) ≡ length (now types)) × (2 + 20 * length (now types) ≤ length (now out)) ⌝ }
+    ensures { λ _. ⌜ WithContents (map now (now (types .entry))) (map now (now (contents .entry))) (λ cs. now (out .exit) ≡ sets (now (out .entry)) 2 (flat childHeader cs)) ⌝ }
+{
+    let mut i = 0;
+    while i < types.len() {
+        let text = types[i];
+        let content = contents[i];
+        let size = content.len();
+        put_header(text, size, 2 + 20 * i, out);
+        i += 1;
+    }
+}
+
+// Writes a name, ended by one 0, and gives the place behind it.
+fn put_name(name: &[u8], at: usize, out: &mut [u8]) -> usize
+    requires { ⌜ at + length (ended (now name)) ≤ length (now out) ⌝ }
+    ensures place { λ r. ⌜ r ≡ at + length (ended (now (name .entry))) ⌝ }
+    ensures bytes { λ _. ⌜ now (out .exit) ≡ sets (now (out .entry)) at (ended (now (name .entry))) ⌝ }
+{
+    let end = at + name.len();
+    fields::store::put(name, at, out);
+    fields::number::put8(0, end, out);
+    end + 1
+}
+
+fn put_names(names: &[&[u8]], at: usize, out: &mut [u8]) -> usize
+    requires { ⌜ at + length (flat ended (map now (now names))) ≤ length (now out) ⌝ }
+    ensures place { λ r. ⌜ r ≡ at + length (flat ended (map now (now (names .entry)))) ⌝ }
+    ensures bytes { λ _. ⌜ now (out .exit) ≡ sets (now (out .entry)) at (flat ended (map now (now (names .entry)))) ⌝ }
+{
+    let mut to = at;
+    let mut i = 0;
+    while i < names.len() {
+        let name = names[i];
+        to = put_name(name, to, out);
+        i += 1;
+    }
+    to
+}
+
+// Writes a child's content and its pad, and gives the place behind them.
+fn put_content(content: &[u8], at: usize, out: &mut [u8]) -> usize
+    requires { ⌜ at + length (padded (now content)) ≤ length (now out) ⌝ }
+    ensures place { λ r. ⌜ r ≡ at + length (padded (now (content .entry))) ⌝ }
+    ensures bytes { λ _. ⌜ now (out .exit) ≡ sets (now (out .entry)) at (padded (now (content .entry))) ⌝ }
+{
+    let n = content.len();
+    fields::store::put(content, at, out);
+    put_pad(n, at + n, out);
+    at + n + n % 2
+}
+
+fn put_contents(contents: &[&[u8]], at: usize, out: &mut [u8]) -> usize
+    requires { ⌜ at + length (flat padded (map now (now contents))) ≤ length (now out) ⌝ }
+    ensures place { λ r. ⌜ r ≡ at + length (flat padded (map now (now (contents .entry)))) ⌝ }
+    ensures bytes { λ _. ⌜ now (out .exit) ≡ sets (now (out .entry)) at (flat padded (map now (now (contents .entry)))) ⌝ }
+{
+    let mut to = at;
+    let mut i = 0;
+    while i < contents.len() {
+        let content = contents[i];
+        to = put_content(content, to, out);
+        i += 1;
+    }
+    to
+}
+
+// Writes NAME_TABLE_SIZE and the table, and gives the place behind them.
+fn put_table(names: &[&[u8]], at: usize, out: &mut [u8]) -> usize
+    requires { ⌜ (length (padded (flat ended (map now (now names)))) ≤ 65535) × (at + (2 + length (padded (flat ended (map now (now names))))) ≤ length (now out)) ⌝ }
+    ensures place { λ r. ⌜ r ≡ at + (2 + length (padded (flat ended (map now (now (names .entry)))))) ⌝ }
+    ensures bytes { λ _. ⌜ now (out .exit) ≡ sets (now (out .entry)) at (beBytes 2 (length (padded (flat ended (map now (now (names .entry)))))) ++ padded (flat ended (map now (now (names .entry))))) ⌝ }
+{
+    let n = names_len(names);
+    fields::number::put16((n + n % 2) as u16, at, out);
+    let end = put_names(names, at + 2, out);
+    put_pad(n, end, out);
+    end + n % 2
+}
+
+// Writes the whole content, and gives its length.
+fn put_children(types: &[&[u8]], names: &[&[u8]], contents: &[&[u8]], out: &mut [u8]) -> usize
+    requires { ⌜ (layoutGood (map now (now types)) (map now (now names)) (map now (now contents)) ≡ true) × (length (encodeChildren (children (map now (now types)) (map now (now names)) (map now (now contents)))) ≤ length (now out)) ⌝ }
+    ensures count { λ r. ⌜ r ≡ length (encodeChildren (children (map now (now (types .entry))) (map now (now (names .entry))) (map now (now (contents .entry))))) ⌝ }
+    ensures bytes { λ _. ⌜ now (out .exit) ≡ sets (now (out .entry)) 0 (encodeChildren (children (map now (now (types .entry))) (map now (now (names .entry))) (map now (now (contents .entry))))) ⌝ }
+{
+    let count = types.len();
+    fields::number::put16(count as u16, 0, out);
+    put_headers(types, contents, out);
+    let end = put_table(names, 2 + 20 * count, out);
+    put_contents(contents, end, out)
+}
+
+// Writes the BIND content of the children with these types, names and contents: the first child has the first of each, and so on.
+pub fn write_bind(
+    types: &[&[u8]],
+    names: &[&[u8]],
+    contents: &[&[u8]],
+    out: &mut [u8],
+) -> fields::Written
+    ensures answer { λ r. ⌜ r ≡ bindWritten (map now (now (types .entry))) (map now (now (names .entry))) (map now (now (contents .entry))) (length (now (out .entry))) ⌝ }
+    ensures bytes { λ _. ⌜ now (out .exit) ≡ bindOut (map now (now (types .entry))) (map now (now (names .entry))) (map now (now (contents .entry))) (now (out .entry)) ⌝ }
+{
+    let fault = write_fault(types, names, contents, out.len());
+    if fault != 0 {
+        return fields::Written::Refused(fault);
+    }
+    let n = put_children(types, names, contents, out);
+    fields::Written::Wrote(n)
+}
