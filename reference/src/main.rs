@@ -4,9 +4,14 @@
 //! From the root: `CARGO_TARGET_DIR=target/reference cargo run --manifest-path reference/Cargo.toml
 //! -- check .`, or `write .` to make the files again.
 
+mod content;
 mod crc;
+mod cursor;
+mod fault;
+mod lookup;
 mod random;
 mod vectors;
+mod writer;
 
 use std::path::Path;
 use std::process::ExitCode;

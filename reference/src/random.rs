@@ -17,6 +17,20 @@ impl Random {
         z ^ z >> 31
     }
 
+    /// The upper half of one word.
+    pub fn u32(&mut self) -> u32 {
+        u32::try_from(self.word() >> 32).expect("the upper half has 32 bits")
+    }
+
+    /// A number below the bound.
+    pub fn below(&mut self, bound: usize) -> usize {
+        self.u32() as usize % bound
+    }
+
+    pub fn pick<T: Copy>(&mut self, choices: &[T]) -> T {
+        choices[self.below(choices.len())]
+    }
+
     /// Bytes, each the top byte of one word.
     pub fn bytes(&mut self, length: usize) -> Vec<u8> {
         (0..length).map(|_| self.word().to_be_bytes()[0]).collect()

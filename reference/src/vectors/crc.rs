@@ -1,23 +1,19 @@
-//! Records for the program vectors_crc, and the CRC of each.
+//! Cases of the CRC.
 
-use super::VectorFile;
+use super::case::Case;
 use crate::crc::crc;
 use crate::random::Random;
 
 const SEED: u64 = 1;
 
-pub fn files() -> Vec<VectorFile> {
-    let bodies = bodies();
-    vec![
-        VectorFile {
-            path: "crates/vectors_crc/stdin",
-            bytes: input(&bodies),
-        },
-        VectorFile {
-            path: "crates/vectors_crc/stdout",
-            bytes: output(&bodies),
-        },
-    ]
+pub fn cases() -> Vec<Case> {
+    bodies().iter().map(|body| crc_case(body)).collect()
+}
+
+fn crc_case(body: &[u8]) -> Case {
+    Case::of_kind('K')
+        .given(body)
+        .bytes(&crc(body).to_be_bytes())
 }
 
 fn bodies() -> Vec<Vec<u8>> {
@@ -42,35 +38,13 @@ fn single_bits(length: usize) -> impl Iterator<Item = Vec<u8>> {
     })
 }
 
-/// Each body after its length in two bytes, and then a record that lacks its last byte.
-fn input(bodies: &[Vec<u8>]) -> Vec<u8> {
-    let mut bytes: Vec<u8> = bodies.iter().flat_map(|body| record(body)).collect();
-    bytes.extend(record(b"cut short"));
-    bytes.pop();
-    bytes
-}
-
-fn record(body: &[u8]) -> Vec<u8> {
-    let length = u16::try_from(body.len()).expect("a record's length fits two bytes");
-    [&length.to_be_bytes(), body].concat()
-}
-
-fn output(bodies: &[Vec<u8>]) -> Vec<u8> {
-    let lines = bodies.iter().map(|body| format!("{:016X}\n", crc(body)));
-    lines.collect::<String>().into_bytes()
-}
-
 #[cfg(test)]
 mod tests {
-    use super::{bodies, input, output};
-
-    #[test]
-    fn the_input_fits_the_buffer_of_the_program() {
-        assert!(input(&bodies()).len() <= 65_536);
-    }
+    use super::cases;
+    use crate::vectors::case::output;
 
     #[test]
     fn the_check_text_comes_first() {
-        assert!(output(&bodies()).starts_with(b"6C40DF5F0B497347\n"));
+        assert!(output(&cases()).starts_with(b"K 6c40df5f0b497347\n"));
     }
 }

@@ -1,0 +1,2 @@
+-- The definitions that the contracts are stated with. Nothing is proved here.
+pub mod Records

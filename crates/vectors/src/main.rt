@@ -1,0 +1,49 @@
+// Reads a run of records from standard input and writes a line for each: what the functions that it asks for answer. A record is its
+// kind, a letter, and then its fields (crate vector_records); a line begins with the kind. The module of each topic lists its kinds
+// with their fields. A record that the input's end cuts short ends the run.
+mod children;
+mod contents;
+mod crc;
+mod writers;
+
+use libc::STDIN_FILENO;
+use vector_records::after_field;
+use vector_records::field;
+
+fn print_answer(record: &[u8]) {
+    let kind = fields::number::be8(record, 0);
+    let first = fields::slice::rest(record, 1);
+    let second = after_field(first);
+    let third = after_field(second);
+    vector_records::print_kind(kind);
+    match kind {
+        b'K' => crc::print_crc(field(first)),
+        b'T' => contents::print_transform(field(first)),
+        b'P' => contents::print_position(field(first)),
+        b'I' => contents::print_image(field(first)),
+        b'C' => contents::print_numbers(field(first), field(second)),
+        b'Z' => contents::print_patched(field(first), field(second), field(third)),
+        b'L' => children::print_lookups(field(first), second),
+        b'M' => children::print_patched(field(first), field(second), third),
+        b'E' => children::print_either(field(first), field(second), field(third)),
+        b't' | b'p' | b'i' | b'b' => writers::print_short(kind, field(first), second),
+        b'n' | b'm' => writers::print_long(kind, field(first), field(second)),
+        _ => {}
+    }
+    vector_records::end_line();
+}
+
+fn print_answers(records: &[u8]) {
+    let mut left = records;
+    while vector_records::is_whole(left) {
+        print_answer(field(left));
+        let next = after_field(left);
+        left = next;
+    }
+}
+
+fn main() {
+    let mut buffer = vector_records::buffer(0);
+    let n = io::read_full(STDIN_FILENO, &mut buffer);
+    print_answers(&buffer[..n]);
+}

@@ -1,0 +1,154 @@
+//! The layout of a BIND content: its children's types, names and data, whatever these hold.
+//!
+//! A content is taken apart without asking whether its fields agree. It keeps the rule if putting
+//! the parts together again gives the same bytes.
+
+use crate::cursor::Cursor;
+
+const TYPE_LENGTH: usize = 12;
+
+/// A child, as parts of the content or as given to a writer.
+#[derive(Clone, Copy, Debug, PartialEq, Eq)]
+pub struct Part<'a> {
+    pub type_text: &'a [u8],
+    pub name: &'a [u8],
+    pub data: &'a [u8],
+}
+
+/// The children of a content, or nothing where it breaks the layout's rule.
+pub fn split(content: &[u8]) -> Option<Vec<Part<'_>>> {
+    let parts = take_apart(content)?;
+    (join(&parts)? == content).then_some(parts)
+}
+
+/// The content of these children, or nothing where one of their texts, the count or the table does
+/// not fit.
+pub fn join(parts: &[Part]) -> Option<Vec<u8>> {
+    let count = u16::try_from(parts.len()).ok()?;
+    let mut headers = Vec::new();
+    let mut table = Vec::new();
+    let mut data = Vec::new();
+    for part in parts {
+        headers.extend(type_field(part.type_text)?);
+        headers.extend(u64::try_from(part.data.len()).ok()?.to_be_bytes());
+        table.extend(Some(part.name).filter(|name| is_text(name))?);
+        table.push(0);
+        data.extend(part.data);
+        fill_word(&mut data);
+    }
+    fill_word(&mut table);
+    let table_size = u16::try_from(table.len()).ok()?;
+    let sizes = [count.to_be_bytes(), table_size.to_be_bytes()];
+    Some([&sizes[0][..], &headers, &sizes[1], &table, &data].concat())
+}
+
+/// The parts that the sizes point out. Nothing else is asked of the bytes.
+fn take_apart(content: &[u8]) -> Option<Vec<Part<'_>>> {
+    let mut cursor = Cursor::new(content);
+    let count = cursor.u16()?;
+    let headers = (0..count).map(|_| Some((cursor.run(TYPE_LENGTH as u64)?, cursor.u64()?)));
+    let headers = headers.collect::<Option<Vec<_>>>()?;
+    let table_size = cursor.u16()?;
+    let mut names = cursor.run(table_size.into())?.split(|&byte| byte == 0);
+    let parts = headers.into_iter().map(|(field, size)| {
+        let part = Part {
+            type_text: field.split(|&byte| byte == 0).next()?,
+            name: names.next()?,
+            data: cursor.run(size)?,
+        };
+        cursor.run(size % 2)?;
+        Some(part)
+    });
+    parts.collect()
+}
+
+/// A text and zeros to the end of its field, where it is a text and fits.
+fn type_field(text: &[u8]) -> Option<[u8; TYPE_LENGTH]> {
+    let mut field = [0; TYPE_LENGTH];
+    field.get_mut(..text.len())?.copy_from_slice(text);
+    is_text(text).then_some(field)
+}
+
+fn is_text(bytes: &[u8]) -> bool {
+    bytes.iter().all(|byte| (1..=127).contains(byte))
+}
+
+/// One 0 byte where the number of bytes is odd.
+fn fill_word(bytes: &mut Vec<u8>) {
+    bytes.resize(bytes.len().next_multiple_of(2), 0);
+}
+
+#[cfg(test)]
+mod tests {
+    use super::{join, split, Part};
+
+    fn one_child<'a>(name: &'a [u8], data: &'a [u8]) -> [Part<'a>; 1] {
+        let type_text = b"TRANSFORM";
+        [Part {
+            type_text,
+            name,
+            data,
+        }]
+    }
+
+    #[test]
+    fn p7_no_children() {
+        assert_eq!(join(&[]), Some(vec![0, 0, 0, 0]));
+        assert_eq!(split(&[0, 0, 0, 0]), Some(Vec::new()));
+        assert_eq!(split(&[0, 0, 0, 2, 0, 0]), None);
+        assert_eq!(split(&[]), None);
+    }
+
+    #[test]
+    fn p8_one_transform_named_a_or_ab() {
+        assert_eq!(join(&one_child(b"A", &[0; 48])).unwrap().len(), 74);
+        assert_eq!(join(&one_child(b"AB", &[0; 48])).unwrap().len(), 76);
+    }
+
+    #[test]
+    fn an_empty_name_takes_its_zero_and_the_pad() {
+        let content = join(&one_child(b"", b"")).unwrap();
+        assert_eq!(content[22..], [0, 2, 0, 0]);
+        assert_eq!(split(&content), Some(one_child(b"", b"").to_vec()));
+    }
+
+    #[test]
+    fn odd_data_is_padded_the_last_too() {
+        let content = join(&one_child(b"A", &[7])).unwrap();
+        assert_eq!(content[content.len() - 2..], [7, 0]);
+        assert_eq!(split(&content[..content.len() - 1]), None);
+        let longer = [&content[..], &[0]].concat();
+        assert_eq!(split(&longer), None);
+    }
+
+    #[test]
+    fn texts_that_do_not_fit_are_refused() {
+        let parts = |type_text, name| {
+            [Part {
+                type_text,
+                name,
+                data: &[],
+            }]
+        };
+        assert!(join(&parts(b"TWELVE_BYTES", b"\x01\x7F")).is_some());
+        assert!(join(&parts(b"THIRTEEN_BYTE", b"")).is_none());
+        assert!(join(&parts(b"A\x80", b"")).is_none());
+        assert!(join(&parts(b"A", b"\0")).is_none());
+    }
+
+    #[test]
+    fn the_table_takes_65_534_bytes_at_the_most() {
+        let name = vec![1; 65_534];
+        assert!(join(&one_child(&name[..65_533], b"")).is_some());
+        assert!(join(&one_child(&name, b"")).is_none());
+    }
+
+    #[test]
+    fn sizes_that_sum_to_a_small_number_are_refused() {
+        let two = [one_child(b"", b""), one_child(b"", b"")].concat();
+        let mut content = join(&two).unwrap();
+        content[14] = 0x80;
+        content[34] = 0x80;
+        assert_eq!(split(&content), None);
+    }
+}

@@ -1,0 +1,83 @@
+//! A case: the record that the program reads and the line that it writes.
+
+use std::fmt::{Display, Write};
+
+#[derive(Clone)]
+pub struct Case {
+    record: Vec<u8>,
+    line: String,
+}
+
+impl Case {
+    /// A record that begins with its kind, a letter, which begins the line too.
+    pub fn of_kind(kind: char) -> Self {
+        let line = kind.to_string();
+        let record = line.clone().into_bytes();
+        Case { record, line }
+    }
+
+    /// One more field of the record.
+    pub fn given(mut self, bytes: &[u8]) -> Self {
+        self.record.extend(field(bytes));
+        self
+    }
+
+    /// One more word of the line.
+    pub fn number(self, number: impl Display) -> Self {
+        self.text(format_args!(" {number}"))
+    }
+
+    pub fn numbers(self, numbers: impl IntoIterator<Item = u16>) -> Self {
+        numbers.into_iter().fold(self, Case::number)
+    }
+
+    /// One more word of the line: two digits for each byte, or a dash where there is none.
+    pub fn bytes(self, bytes: &[u8]) -> Self {
+        let start = self.text(if bytes.is_empty() { " -" } else { " " });
+        bytes
+            .iter()
+            .fold(start, |case, byte| case.text(format_args!("{byte:02x}")))
+    }
+
+    pub fn words(self, words: &[u32]) -> Self {
+        let bytes = words.iter().map(|word| word.to_be_bytes());
+        bytes.fold(self, |case, bytes| case.bytes(&bytes))
+    }
+
+    fn text(mut self, text: impl Display) -> Self {
+        write!(self.line, "{text}").expect("a string takes any text");
+        self
+    }
+}
+
+/// The input: the records, and then one that lacks its last byte.
+pub fn input(cases: &[Case]) -> Vec<u8> {
+    let records = cases.iter().flat_map(|case| field(&case.record));
+    let mut bytes: Vec<u8> = records.chain(field(b"cut short")).collect();
+    bytes.pop();
+    bytes
+}
+
+pub fn output(cases: &[Case]) -> Vec<u8> {
+    let lines = cases.iter().map(|case| format!("{}\n", case.line));
+    lines.collect::<String>().into_bytes()
+}
+
+/// Bytes after their length in two bytes: a record, or a field of one.
+pub fn field(bytes: &[u8]) -> Vec<u8> {
+    let length = u16::try_from(bytes.len()).expect("a length fits two bytes");
+    [&length.to_be_bytes(), bytes].concat()
+}
+
+#[cfg(test)]
+mod tests {
+    use super::{input, output, Case};
+
+    #[test]
+    fn a_case_has_a_record_and_a_line() {
+        let case = Case::of_kind('T').given(&[1, 2]).number(8).bytes(&[]);
+        let cases = [case.words(&[0xAB])];
+        assert!(input(&cases).starts_with(&[0, 5, b'T', 0, 2, 1, 2]));
+        assert_eq!(output(&cases), b"T 8 - 000000ab\n");
+    }
+}

@@ -1,0 +1,96 @@
+//! Content writers: the bytes into the front of a lent buffer, or nothing of it touched.
+
+use crate::content::bind::{self, Part};
+use crate::content::image::{Header, Image};
+use crate::content::parse_nested;
+use crate::content::pose::{Position, Transform};
+use crate::fault::Fault;
+
+/// How many bytes were written.
+pub type Written = Result<usize, Fault>;
+
+pub fn write_transform(transform: &Transform, out: &mut [u8]) -> Written {
+    store(&transform.encode(), out)
+}
+
+pub fn write_position(words: &[u32], out: &mut [u8]) -> Written {
+    store(&Position::from_words(words.to_vec())?.encode(), out)
+}
+
+pub fn write_image(header: &Header, pixels: &[u8], out: &mut [u8]) -> Written {
+    store(&Image::new(header.clone(), pixels)?.encode(), out)
+}
+
+pub fn write_bind(types: &[&[u8]], names: &[&[u8]], contents: &[&[u8]], out: &mut [u8]) -> Written {
+    let bytes = encode_bind(types, names, contents)?;
+    store(&bytes, out)
+}
+
+fn encode_bind(types: &[&[u8]], names: &[&[u8]], contents: &[&[u8]]) -> Result<Vec<u8>, Fault> {
+    if types.len() != names.len() || names.len() != contents.len() {
+        return Err(Fault::Bind);
+    }
+    let texts = types.iter().zip(names);
+    let parts = texts
+        .zip(contents)
+        .map(|((type_text, name), data)| Part {
+            type_text,
+            name,
+            data,
+        })
+        .collect::<Vec<_>>();
+    let bytes = bind::join(&parts).ok_or(Fault::Bind)?;
+    for part in &parts {
+        parse_nested(part.type_text, part.data)?;
+    }
+    Ok(bytes)
+}
+
+fn store(bytes: &[u8], out: &mut [u8]) -> Written {
+    let front = out.get_mut(..bytes.len()).ok_or(Fault::Room)?;
+    front.copy_from_slice(bytes);
+    Ok(bytes.len())
+}
+
+#[cfg(test)]
+mod tests {
+    use super::{write_bind, write_position, write_transform};
+    use crate::content::pose::Transform;
+    use crate::fault::Fault;
+
+    #[test]
+    fn bytes_beyond_keep_their_contents() {
+        let mut out = [7; 50];
+        let transform = Transform::default();
+        assert_eq!(write_transform(&transform, &mut out), Ok(48));
+        assert_eq!(out[47..], [0, 7, 7]);
+        let room = &mut out[..47];
+        assert_eq!(write_transform(&transform, room), Err(Fault::Room));
+    }
+
+    #[test]
+    fn a_length_fault_comes_before_the_room() {
+        assert_eq!(write_position(&[0; 4], &mut []), Err(Fault::Length));
+        assert_eq!(write_position(&[0; 3], &mut []), Err(Fault::Room));
+    }
+
+    #[test]
+    fn p8_written() {
+        let mut out = [7; 80];
+        let written = write_bind(&[b"TRANSFORM"], &[b"A"], &[&[0; 48]], &mut out);
+        assert_eq!(written, Ok(74));
+    }
+
+    #[test]
+    fn layout_then_children_then_room() {
+        let child = [&[0][..]];
+        let write = |type_text, names: &[&[u8]]| {
+            let types: [&[u8]; 1] = [type_text];
+            write_bind(&types, names, &child, &mut [])
+        };
+        assert_eq!(write(b"TRANSFORM", &[b"\x80"]), Err(Fault::Bind));
+        assert_eq!(write(b"TRANSFORM", &[]), Err(Fault::Bind));
+        assert_eq!(write(b"TRANSFORM", &[b"A"]), Err(Fault::Length));
+        assert_eq!(write(b"STATUS", &[b"A"]), Err(Fault::Room));
+    }
+}
