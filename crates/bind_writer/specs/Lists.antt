@@ -1,7 +1,7 @@
 -- The children of a BIND, given as three lists: their types, their names, their contents.
 use Prim.Native.Nat.{ℕ, _^_, _<_}
 use mathlib.Core.Path.{_≡_}
-use mathlib.Core.List.{List, [], _∷_, _++_, map}
+use mathlib.Core.List.{List, [], _∷_, map}
 use lib.ListN.{length}
 use Rattle.fields.specs.Lists.{Each}
 use Rattle.bundle.specs.Children.{Child}
@@ -38,7 +38,3 @@ pub record SameCount (ts ns ds : List (List ℕ)) : Type 0 where
 -- each content's size fits CSIZE. On the target the length of every slice does
 abbrev pub SizesFit : List (List ℕ) → Type 0
 SizesFit ds = Each (λ d. length d < 256 ^ 8) ds
-
--- a name, ended by one 0
-abbrev pub ended : List ℕ → List ℕ
-ended name = name ++ (0 ∷ [])

@@ -10,7 +10,7 @@ use Rattle.fields.specs.Checks.{orElse}
 use Rattle.fields.specs.Answer.{writtenOf, roomFault, outAfter}
 use Rattle.fields.specs.declared.Written.{Written}
 use Rattle.bundle.specs.Children.{Child, nameTable, encodeChildren}
-use Rattle.content.specs.Check.{contentFault}
+use Rattle.content.specs.Check.{contentFault, nestedLevels}
 use Rattle.content.specs.Contents.{firstFault}
 use Rattle.bind_writer.specs.Lists.{children}
 
@@ -42,12 +42,9 @@ layoutGood ts ns ds =
 unfoldable pub listsFault : List (List ℕ) → List (List ℕ) → List (List ℕ) → ℕ
 listsFault ts ns ds = cond (layoutGood ts ns ds) 0 10
 
--- the BIND that is written is level 1, so a child of it has three levels left
-abbrev pub childLevels : ℕ
-childLevels = 3
-
+-- the BIND that is written is level 1, its children are level 2
 abbrev pub childFault : Child → ℕ
-childFault c = contentFault childLevels (c .typeText) (c .content)
+childFault c = contentFault nestedLevels (c .typeText) (c .content)
 
 -- check 20
 abbrev pub spaceFault : List (List ℕ) → List (List ℕ) → List (List ℕ) → ℕ → ℕ

@@ -10,11 +10,11 @@ ghost use lib.Seq.{sets};
 ghost use Rattle.fields.specs.Lists.{all, flat};
 ghost use Rattle.fields.specs.Numbers.{beBytes};
 ghost use Rattle.fields.specs.Text.{textBytes};
-ghost use Rattle.bundle.specs.Children.{padded, childHeader, encodeChildren};
-ghost use Rattle.content.specs.Check.{contentFault};
+ghost use Rattle.bundle.specs.Children.{padded, childHeader, encodeChildren, ended};
+ghost use Rattle.content.specs.Check.{contentFault, nestedLevels};
 ghost use Rattle.content.specs.Contents.{firstFault};
-ghost use Rattle.bind_writer.specs.Lists.{children, WithNames, WithContents, ended};
-ghost use Rattle.bind_writer.specs.Writer.{typeGood, textsGood, layoutGood, childLevels, childFault, spaceFault, writeFault, bindWritten, bindOut};
+ghost use Rattle.bind_writer.specs.Lists.{children, WithNames, WithContents};
+ghost use Rattle.bind_writer.specs.Writer.{typeGood, textsGood, layoutGood, childFault, spaceFault, writeFault, bindWritten, bindOut};
 
 // Is it a text that a CTYPE of 12 bytes holds?
 fn type_good(text: &[u8]) -> bool
@@ -89,7 +89,7 @@ fn layout_good(types: &[&[u8]], names: &[&[u8]], contents: &[&[u8]]) -> bool
 
 // A child of the BIND that is written: a BIND there is level 2.
 fn child_number(text: &[u8], content: &[u8]) -> u8
-    ensures { λ r. ⌜ r ≡ contentFault childLevels (now (text .entry)) (now (content .entry)) ⌝ }
+    ensures { λ r. ⌜ r ≡ contentFault nestedLevels (now (text .entry)) (now (content .entry)) ⌝ }
 {
     content::nested_number(text, content)
 }

@@ -22,8 +22,11 @@ unfoldable pub childHeader : Child → List ℕ
 childHeader c = textBytes 12 (c .typeText) ++ beBytes 8 (length (c .content))
 
 -- a name of the table, ended by one 0
+abbrev pub ended : List ℕ → List ℕ
+ended name = name ++ (0 ∷ [])
+
 unfoldable pub childName : Child → List ℕ
-childName c = c .name ++ (0 ∷ [])
+childName c = ended (c .name)
 
 -- a child's data, followed by one 0 byte if its size is odd
 unfoldable pub childData : Child → List ℕ

@@ -38,3 +38,7 @@ contentFault levels t s = kindFault (bindFault levels) (kindOf t) s
 -- the outermost BIND is level 1, and level 4 is the deepest
 abbrev pub deepest : ℕ
 deepest = 4
+
+-- so a child of the outermost has three levels left
+abbrev pub nestedLevels : ℕ
+nestedLevels = 3

@@ -1,7 +1,7 @@
 // Contents, judged by their type: one dispatch, and BINDs to their innermost children.
 ghost use mathlib.Core.Path.{_≡_};
 ghost use Rattle.content.specs.Kinds.{kindOf};
-ghost use Rattle.content.specs.Check.{contentFault, bindFault, deepest};
+ghost use Rattle.content.specs.Check.{contentFault, bindFault, deepest, nestedLevels};
 
 // The types whose contents are ruled; any other type's content is opaque.
 enum Kind {
@@ -88,7 +88,7 @@ pub fn content_number(text: &[u8], content: &[u8]) -> u8
 
 // The same for a child of such a BIND: a BIND there is level 2.
 pub fn nested_number(text: &[u8], content: &[u8]) -> u8
-    ensures { λ r. ⌜ r ≡ contentFault 3 (now (text .entry)) (now (content .entry)) ⌝ }
+    ensures { λ r. ⌜ r ≡ contentFault nestedLevels (now (text .entry)) (now (content .entry)) ⌝ }
 {
     check_content(text, content, 3)
 }

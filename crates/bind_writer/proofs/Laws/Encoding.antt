@@ -11,10 +11,10 @@ use Rattle.fields.specs.Layout.{join}
 use Rattle.fields.proofs.Laws.Lists.{flat-map}
 use Rattle.fields.proofs.Laws.Numbers.{length-beBytes}
 use Rattle.fields.proofs.Laws.Stores.{sets-append, stores-join}
-use Rattle.bundle.specs.Children.{Child, padded, childHeader, childName, childData, nameTable, encodeChildren}
+use Rattle.bundle.specs.Children.{Child, padded, childHeader, childName, childData, nameTable, encodeChildren, ended}
 use Rattle.bundle.proofs.Laws.Children.{length-padded}
 use Rattle.bundle.proofs.Laws.Written.{length-headers, length-encode}
-use Rattle.bind_writer.specs.Lists.{children, namesOf, contentsOf, SameCount, ended}
+use Rattle.bind_writer.specs.Lists.{children, namesOf, contentsOf, SameCount}
 use Rattle.bind_writer.proofs.Laws.Children.{lists-of}
 
 names-flat : (cs : List Child) → flat childName cs ≡ flat ended (namesOf cs)

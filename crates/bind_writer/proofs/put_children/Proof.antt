@@ -10,8 +10,8 @@ use borrow.Author.Tests.{leb-true}
 use borrow.Author.Needs.{needs}
 use Rattle.fields.specs.Numbers.{beBytes}
 use Rattle.fields.specs.Lists.{flat}
-use Rattle.bundle.specs.Children.{padded, nameTable, childHeader}
-use Rattle.bind_writer.specs.Lists.{children, ended}
+use Rattle.bundle.specs.Children.{padded, nameTable, childHeader, ended}
+use Rattle.bind_writer.specs.Lists.{children}
 use Rattle.bind_writer.proofs.Laws.Slices.{count-same}
 use Rattle.bind_writer.proofs.Laws.Children.{lists-of}
 use Rattle.bind_writer.proofs.Laws.Layout.{laid}

@@ -10,8 +10,8 @@ use borrow.Author.Tests.{not-true, not-false, leb-true, leb-false}
 use borrow.Author.Needs.{needs}
 use Rattle.fields.specs.Lists.{flat}
 use Rattle.fields.proofs.Laws.Answer.{room-enough, room-short}
-use Rattle.bundle.specs.Children.{padded, nameTable, encodeChildren}
-use Rattle.bind_writer.specs.Lists.{children, ended}
+use Rattle.bundle.specs.Children.{padded, nameTable, encodeChildren, ended}
+use Rattle.bind_writer.specs.Lists.{children}
 use Rattle.bind_writer.proofs.Laws.Layout.{laid}
 use Rattle.bind_writer.specs.Writer.{layoutGood}
 use Rattle.bind_writer.proofs.Laws.Encoding.{length-front}

@@ -1,9 +1,9 @@
 -- A content's layout is accepted exactly when some children are written as it, and only one list of children is. Assumes nothing.
-use mathlib.Core.Path.{_≡_, refl, sym, ap, _∙_}
-use mathlib.Core.Bool.{Bool, true, false, cond}
+use mathlib.Core.Path.{_≡_, sym, ap, _∙_}
 use mathlib.Core.List.{List}
 use Prim.Native.Nat.{ℕ}
 use Rattle.fields.specs.Bytes.{Bytes}
+use Rattle.fields.proofs.Laws.Checks.{cond-refused}
 use Rattle.bundle.specs.Children.{Child, encodeChildren, WellBundle}
 use Rattle.bundle.specs.Layout.{layoutOk, layoutFault}
 use Rattle.bundle.specs.Bundles.{IsBundle, Bundles}
@@ -19,11 +19,7 @@ bundle-unique xs ys v w e = sym (children-written xs v) ∙ ap childrenOf e ∙ 
 
 bundle-refused : (s : List ℕ) → Bytes s → (IsBundle s → ⊥) → layoutFault s ≡ 10
 unfolding layoutFault
-bundle-refused s b n = go (layoutOk s) refl
-  where
-    go : (t : Bool) → layoutOk s ≡ t → _≡_ {A = ℕ} (cond (layoutOk s) 0 10) 10
-    go true e = absurd (n (bundle-accepted s b (ap {B = ℕ} (λ t. cond t 0 10) e)))
-    go false e = ap {B = ℕ} (λ t. cond t 0 10) e
+bundle-refused s b n = cond-refused (layoutOk s) _ (λ z. n (bundle-accepted s b z))
 
 pub bundles : Bundles
 bundles =

@@ -30,6 +30,15 @@ pub cond-pass : (t : Bool) (k n : ℕ) → cond t n (suc k) ≡ 0 → (t ≡ tru
 cond-pass true k n h = (refl, h)
 cond-pass false k n h = absurd (let z : _≡_ {A = ℕ} (suc k) 0 = h in omega arith)
 
+-- a check that does not pass gives its number
+pub cond-refused : (t : Bool) (n : ℕ) → (cond t 0 n ≡ 0 → ⊥) → cond t 0 n ≡ n
+cond-refused true n h = absurd (h refl)
+cond-refused false n h = refl
+
+pub cond-faulty : (t : Bool) (n : ℕ) → (cond t n 0 ≡ 0 → ⊥) → cond t n 0 ≡ n
+cond-faulty true n h = refl
+cond-faulty false n h = absurd (h refl)
+
 pub and-split : (a b : Bool) → (a && b) ≡ true → (a ≡ true) × (b ≡ true)
 and-split true b h = (refl, h)
 and-split false b h = absurd (false≢true h)
