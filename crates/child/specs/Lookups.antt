@@ -75,3 +75,5 @@ pub record EitherLookups : Type 0 where
   pub site-fault : (a b x : List ℕ) → (bindFault deepest a ≡ 0 → ⊥) → eitherPlace a b x ≡ record { number = bindFault deepest a; source = Neither; at = 0; len = 0 }
   pub default-fault : (a b x : List ℕ) → bindFault deepest a ≡ 0 → (bindFault deepest b ≡ 0 → ⊥)
       → eitherPlace a b x ≡ record { number = bindFault deepest b; source = Neither; at = 0; len = 0 }
+  -- a refused look-up hands back an empty part, of neither
+  pub empty : (a b x : List ℕ) → (eitherPlace a b x .number ≡ 0 → ⊥) → (eitherPlace a b x .source ≡ Neither) × (eitherPart (eitherPlace a b x) a b ≡ [])

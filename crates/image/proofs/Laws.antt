@@ -1,7 +1,7 @@
 -- The laws of IMAGE: accepted exactly the bytes of well formed images, of one each; read as itself; written back.
 use Prim.Native.Nat.{ℕ, _+_, _-_, _<_, _≤_}
-use mathlib.Core.Path.{_≡_, sym, ap, ap₂, _∙_}
-use mathlib.Core.Bool.{Bool, cond}
+use mathlib.Core.Path.{_≡_, refl, sym, ap, ap₂, _∙_}
+use mathlib.Core.Bool.{Bool, true, false, cond}
 use mathlib.Core.List.{List, [], _++_}
 use native.Mathlib.Omega.{arith}
 use lib.Dec.{leb}
@@ -15,7 +15,7 @@ use Rattle.fields.specs.Checks.{orElse}
 use Rattle.fields.specs.Answer.{writtenNumber, roomFault}
 use Rattle.fields.proofs.Laws.Bytes.{bytes-append, bytes-drop}
 use Rattle.fields.proofs.Laws.Layout.{bytes-join, bytes-numbers}
-use Rattle.fields.proofs.Laws.Checks.{cond-pass, zero-else, else-zero}
+use Rattle.fields.proofs.Laws.Checks.{cond-pass, cond-refused, zero-else, else-zero}
 use Rattle.fields.proofs.Laws.Answer.{written-wrote, written-refused, written-number, room-enough, room-fits, out-wrote, out-refused, out-sets}
 use Rattle.image.specs.declared.ImageHeader.{ImageHeader}
 use Rattle.image.specs.declared.ImageRead.{ImageRead}
@@ -185,12 +185,22 @@ taken-accepted h p out f e = (
   zero-else (imageFault (encodeImage (imageOfParts h p))) (roomFault (72 + length p) (length out)) (sym (write-number h p out f) ∙ e) .0,
 )
 
+-- a content that is refused is 9, too short or not
+number-refused : (c : List ℕ) → (imageFault c ≡ 0 → ⊥) → imageFault c ≡ 9
+unfolding imageFault ruleFault
+number-refused c h = go (leb 72 (length c)) (headerOk (headerOf c) (length c - 72)) h
+  where
+    go : (t u : Bool) → (_≡_ {A = ℕ} (cond t (cond u 0 9) 9) 0 → ⊥) → _≡_ {A = ℕ} (cond t (cond u 0 9) 9) 9
+    go true u n = cond-refused u _ n
+    go false u n = refl
+
 -- ---- the laws, as they are stated
 
 pub images : Images
 images =
     record {
       accepted = image-accepted;
+      refused = λ c b n. number-refused c (λ z. n (image-accepted c b z));
       well = image-well;
       unique = image-unique;
       header-read = λ x w. read-encoded x (w .fits) (image-well x w);

@@ -104,6 +104,10 @@ pub record WellImage (x : Image) : Type 0 where
   pub rule : ImageRule (x .header) (length (x .pixels))
   pub bytes : Bytes (x .pixels)
 
+-- some well formed image is written as these bytes
+abbrev pub IsImage : List ℕ → Type 0
+IsImage c = (x : Image) × WellImage x × (encodeImage x ≡ c)
+
 -- ---- the check: 9 for any fault
 
 -- the bytes of one scalar of each type from 0 on; 0 where there is no such type
@@ -211,8 +215,9 @@ imageAfter h p out = outAfter (writeFault h (length p) (length out)) (encodeImag
 -- ---- what is proved of them
 
 pub record Images : Type 0 where
-  -- accepted bytes are those of some well formed image, those of a well formed image are accepted, and they are no other's
-  pub accepted : (c : List ℕ) → Bytes c → imageFault c ≡ 0 → (x : Image) × WellImage x × (encodeImage x ≡ c)
+  -- accepted bytes are those of some well formed image, those of a well formed image are accepted, and they are no other's; else they are 9
+  pub accepted : (c : List ℕ) → Bytes c → imageFault c ≡ 0 → IsImage c
+  pub refused : (c : List ℕ) → Bytes c → (IsImage c → ⊥) → imageFault c ≡ 9
   pub well : (x : Image) → WellImage x → imageFault (encodeImage x) ≡ 0
   pub unique : (x y : Image) → WellImage x → WellImage y → encodeImage x ≡ encodeImage y → x ≡ y
   -- the reader hands out that image

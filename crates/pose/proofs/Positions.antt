@@ -1,6 +1,6 @@
 -- What is stated of POSITION, from the laws of words.
 use Prim.Native.Nat.{ℕ, _*_, _-_, _≤_}
-use mathlib.Core.Path.{_≡_, refl, sym, ap, _∙_}
+use mathlib.Core.Path.{_≡_, refl, sym, ap, ap₂, _∙_}
 use mathlib.Core.Bool.{Bool, true, false, cond}
 use mathlib.Core.List.{List, [], _∷_, _++_}
 use native.Mathlib.Omega.{arith}
@@ -12,13 +12,14 @@ use Rattle.fields.specs.Bytes.{Bytes}
 use Rattle.fields.specs.Numbers.{beAt}
 use Rattle.fields.specs.Layout.{numbersAt}
 use Rattle.fields.specs.declared.Written.the-variants.{Wrote}
-use Rattle.fields.specs.Answer.{roomFault}
-use Rattle.fields.proofs.Laws.Checks.{else-zero}
+use Rattle.fields.specs.Checks.{orElse}
+use Rattle.fields.specs.Answer.{writtenNumber, roomFault}
+use Rattle.fields.proofs.Laws.Checks.{else-zero, cond-faulty}
 use Rattle.fields.proofs.Laws.Numbers.{beAt-past}
-use Rattle.fields.proofs.Laws.Answer.{written-wrote, out-wrote, room-enough}
+use Rattle.fields.proofs.Laws.Answer.{written-wrote, written-number, out-wrote, room-enough}
 use Rattle.pose.specs.declared.PositionRead.{PositionRead}
 use Rattle.pose.specs.Words.{wordBytes}
-use Rattle.pose.specs.Position.{PositionCount, three, six, seven, WellPosition, wordsIn, positionFault, positionAt, positionOf, positionWords, countFault, positionChecks, positionWritten, positionOut, Positions}
+use Rattle.pose.specs.Position.{PositionCount, three, six, seven, WellPosition, IsPosition, wordsIn, positionFault, positionAt, positionOf, positionWords, countFault, positionChecks, positionWritten, positionOut, Positions}
 use Rattle.pose.proofs.Laws.{length-wordBytes, words-read, words-back, words-unique, position-count, position-accepted, position-words, position-well, position-read, count-passed, count-bytes}
 
 -- the words that there are, out of the seven places
@@ -57,9 +58,9 @@ zeros c = go (eqb (positionFault c) 0) refl
 -- ---- the writer
 
 -- before 20, the writer's number is the reader's
-refused : (ws : List ℕ) → countFault (length ws) ≡ positionFault (wordBytes ws)
+count-fault : (ws : List ℕ) → countFault (length ws) ≡ positionFault (wordBytes ws)
 unfolding positionFault
-refused ws = count-bytes (length ws) ∙ ap (λ (n : ℕ). cond (eqb (wordsIn n) 0) 8 0) (sym (length-wordBytes ws))
+count-fault ws = count-bytes (length ws) ∙ ap (λ (n : ℕ). cond (eqb (wordsIn n) 0) 8 0) (sym (length-wordBytes ws))
 
 passed : (ws : List ℕ) (room : ℕ) → countFault (length ws) ≡ 0 → 4 * length ws ≤ room → positionChecks ws room ≡ 0
 passed ws room h k = else-zero (countFault (length ws)) (roomFault (4 * length ws) room) h (room-enough (4 * length ws) room k)
@@ -78,7 +79,7 @@ written-back c out b h k =
     let ws = positionWords (positionOf c) in
     let e : wordBytes ws ≡ c = handed c b h in
     let n : 4 * length ws ≡ length c = sym (length-wordBytes ws) ∙ ap length e in
-    let f : countFault (length ws) ≡ 0 = refused ws ∙ ap positionFault e ∙ h in (
+    let f : countFault (length ws) ≡ 0 = count-fault ws ∙ ap positionFault e ∙ h in (
       written-wrote (positionChecks ws (length out)) (4 * length ws) (passed ws (length out) f (omega arith)) ∙ ap Wrote n,
       out-with-room ws out f (omega arith) ∙ ap (λ (s : List ℕ). s ++ drop (length s) out) e,
     )
@@ -89,10 +90,22 @@ written ws out h k =
     ap (take (4 * length ws)) (out-with-room ws out (count-passed (length ws) (h .count)) k)
     ∙ take-at (wordBytes ws) (drop (length (wordBytes ws)) out) (4 * length ws) (length-wordBytes ws)
 
+refused : (c : List ℕ) → Bytes c → (IsPosition c → ⊥) → positionFault c ≡ 8
+unfolding positionFault
+refused c b n = cond-faulty (eqb (wordsIn (length c)) _) _ (λ z. n (position-accepted c b z))
+
+number : (ws : List ℕ) (room : ℕ)
+    → writtenNumber (positionWritten ws room) ≡ orElse (positionFault (wordBytes ws)) (roomFault (length (wordBytes ws)) room)
+unfolding positionWritten
+number ws room =
+    written-number (positionChecks ws room) (4 * length ws)
+    ∙ ap₂ (λ (k n : ℕ). orElse k (roomFault n room)) (count-fault ws) (sym (length-wordBytes ws))
+
 pub positions : Positions
 positions =
     record {
       accepted = position-accepted;
+      refused = refused;
       well = position-well;
       unique = λ ws vs h k e. words-unique ws vs (h .words) (k .words) e;
       read = read;
@@ -103,5 +116,5 @@ positions =
         ap positionFault (written ws out h k) ∙ position-well ws h,
         ap (λ (c : List ℕ). positionWords (positionOf c)) (written ws out h k) ∙ read ws h,
       );
-      refused = refused;
+      number = number;
     }

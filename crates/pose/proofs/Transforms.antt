@@ -3,16 +3,20 @@ use Prim.Native.Nat.{ℕ, _≤_}
 use mathlib.Core.Path.{_≡_, refl, sym, ap, _∙_}
 use mathlib.Core.List.{List, [], _∷_, _++_, append-nil}
 use native.Mathlib.Omega.{arith}
+use lib.Dec.{eqb}
 use lib.ListN.{length, take, drop, getD, length-append}
 use lib.Seq.{take-at}
 use Rattle.fields.specs.Bytes.{Bytes, part}
 use Rattle.fields.specs.Layout.{join, cut}
 use Rattle.fields.proofs.Laws.Layout.{cut-join}
-use Rattle.fields.proofs.Laws.Answer.{written-wrote, out-wrote, room-enough}
+use Rattle.fields.specs.Checks.{orElse}
+use Rattle.fields.specs.Answer.{writtenNumber, roomFault}
+use Rattle.fields.proofs.Laws.Checks.{else-second, cond-refused}
+use Rattle.fields.proofs.Laws.Answer.{written-wrote, written-number, out-wrote, room-enough}
 use Rattle.pose.specs.declared.Transform.{Transform}
 use Rattle.pose.specs.declared.TransformRead.{TransformRead}
 use Rattle.pose.specs.Words.{wordBytes}
-use Rattle.pose.specs.Transform.{WellTransform, transformFault, transformAt, transformOf, transformWords, transformWritten, transformOut, Columns, Transforms}
+use Rattle.pose.specs.Transform.{WellTransform, IsTransform, transformFault, transformAt, transformOf, transformWords, transformWritten, transformOut, Columns, Transforms}
 use Rattle.pose.proofs.Laws.{length-wordBytes, words-read, words-back, words-unique, words-append, transform-length, transform-accepted, transform-well, transform-read}
 
 read : (ws : List ℕ) → WellTransform ws → transformWords (transformOf (wordBytes ws) .transform) ≡ ws
@@ -90,15 +94,26 @@ read-back t out h k =
     ∙ transform-read s (transform-well (transformWords t) w)
     ∙ ap (λ (x : Transform). record { number = 0; transform = x }) e
 
+refused : (c : List ℕ) → Bytes c → (IsTransform c → ⊥) → transformFault c ≡ 8
+unfolding transformFault
+refused c b n = cond-refused (eqb (length c) _) _ (λ z. n (transform-accepted c b z))
+
+number : (t : Transform) (room : ℕ) → Columns t
+    → writtenNumber (transformWritten room) ≡ orElse (transformFault (wordBytes (transformWords t))) (roomFault 48 room)
+unfolding transformWritten
+number t room h = written-number _ _ ∙ sym (else-second _ _ (transform-well (transformWords t) (well-columns t h)))
+
 pub transforms : Transforms
 unfolding transformWritten
 transforms =
     record {
       accepted = transform-accepted;
+      refused = refused;
       well = transform-well;
       unique = λ ws vs h k e. words-unique ws vs (h .words) (k .words) e;
       read = read;
       handed = handed;
       written-back = λ c out b h k. (written-wrote _ _ (room-enough _ (length out) k), written-back c out b h k);
       read-back = read-back;
+      number = number;
     }

@@ -8,7 +8,7 @@ use lib.ListN.{length, take, drop, replicate}
 use Rattle.fields.specs.Bytes.{Bytes}
 use Rattle.fields.specs.Numbers.{beAt}
 use Rattle.fields.specs.Checks.{orElse}
-use Rattle.fields.specs.Answer.{writtenOf, roomFault, outAfter}
+use Rattle.fields.specs.Answer.{writtenNumber, writtenOf, roomFault, outAfter}
 use Rattle.fields.specs.declared.Written.{Written}
 use Rattle.fields.specs.declared.Written.the-variants.{Wrote}
 use Rattle.pose.specs.declared.PositionRead.{PositionRead}
@@ -24,6 +24,10 @@ pub data PositionCount : ℕ → Type 0 where
 pub record WellPosition (ws : List ℕ) : Type 0 where
   pub count : PositionCount (length ws)
   pub words : Words ws
+
+-- some such words are written as these bytes
+abbrev pub IsPosition : List ℕ → Type 0
+IsPosition c = (ws : List ℕ) × WellPosition ws × (wordBytes ws ≡ c)
 
 -- the number of words in a POSITION of n bytes; 0 where it has no such length
 unfoldable pub wordsIn : ℕ → ℕ
@@ -74,8 +78,9 @@ positionOut ws out = outAfter (positionChecks ws (length out)) (wordBytes ws) ou
 -- ---- what is proved of them
 
 pub record Positions : Type 0 where
-  -- bytes are accepted exactly when they are those of some well formed words, and of only one such list
-  pub accepted : (c : List ℕ) → Bytes c → positionFault c ≡ 0 → (ws : List ℕ) × WellPosition ws × (wordBytes ws ≡ c)
+  -- bytes are accepted exactly when they are those of some well formed words, and of only one such list; else they are 8
+  pub accepted : (c : List ℕ) → Bytes c → positionFault c ≡ 0 → IsPosition c
+  pub refused : (c : List ℕ) → Bytes c → (IsPosition c → ⊥) → positionFault c ≡ 8
   pub well : (ws : List ℕ) → WellPosition ws → positionFault (wordBytes ws) ≡ 0
   pub unique : (ws vs : List ℕ) → WellPosition ws → WellPosition vs → wordBytes ws ≡ wordBytes vs → ws ≡ vs
   -- the reader hands out those words, and zeros past them
@@ -90,5 +95,6 @@ pub record Positions : Type 0 where
   pub read-back : (ws out : List ℕ) → WellPosition ws → 4 * length ws ≤ length out
       → (positionFault (take (4 * length ws) (positionOut ws out)) ≡ 0)
       × (positionWords (positionOf (take (4 * length ws) (positionOut ws out))) ≡ ws)
-  -- before 20, the writer's number is the reader's for the bytes that it would write
-  pub refused : (ws : List ℕ) → countFault (length ws) ≡ positionFault (wordBytes ws)
+  -- the writer's number is the reader's for the bytes that it would write, then 20
+  pub number : (ws : List ℕ) (room : ℕ)
+      → writtenNumber (positionWritten ws room) ≡ orElse (positionFault (wordBytes ws)) (roomFault (length (wordBytes ws)) room)

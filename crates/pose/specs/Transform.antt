@@ -7,7 +7,8 @@ use lib.Dec.{eqb}
 use lib.ListN.{length, take, drop}
 use Rattle.fields.specs.Bytes.{Bytes}
 use Rattle.fields.specs.Numbers.{beAt}
-use Rattle.fields.specs.Answer.{writtenOf, roomFault, outAfter}
+use Rattle.fields.specs.Checks.{orElse}
+use Rattle.fields.specs.Answer.{writtenNumber, writtenOf, roomFault, outAfter}
 use Rattle.fields.specs.declared.Written.{Written}
 use Rattle.fields.specs.declared.Written.the-variants.{Wrote}
 use Rattle.pose.specs.declared.Transform.{Transform}
@@ -18,6 +19,10 @@ use Rattle.pose.specs.Words.{Words, wordBytes}
 pub record WellTransform (ws : List ℕ) : Type 0 where
   pub count : length ws ≡ 12
   pub words : Words ws
+
+-- some twelve words are written as these bytes
+abbrev pub IsTransform : List ℕ → Type 0
+IsTransform c = (ws : List ℕ) × WellTransform ws × (wordBytes ws ≡ c)
 
 -- check 8
 unfoldable pub transformFault : List ℕ → ℕ
@@ -70,8 +75,9 @@ pub record Columns (t : Transform) : Type 0 where
   pub translation : ThreeWords (t .translation)
 
 pub record Transforms : Type 0 where
-  -- bytes are accepted exactly when they are those of some well formed words, and of only one such list
-  pub accepted : (c : List ℕ) → Bytes c → transformFault c ≡ 0 → (ws : List ℕ) × WellTransform ws × (wordBytes ws ≡ c)
+  -- bytes are accepted exactly when they are those of some well formed words, and of only one such list; else they are 8
+  pub accepted : (c : List ℕ) → Bytes c → transformFault c ≡ 0 → IsTransform c
+  pub refused : (c : List ℕ) → Bytes c → (IsTransform c → ⊥) → transformFault c ≡ 8
   pub well : (ws : List ℕ) → WellTransform ws → transformFault (wordBytes ws) ≡ 0
   pub unique : (ws vs : List ℕ) → WellTransform ws → WellTransform vs → wordBytes ws ≡ wordBytes vs → ws ≡ vs
   -- the reader hands out those words
@@ -83,3 +89,6 @@ pub record Transforms : Type 0 where
   -- what the writer writes is accepted, and read as what was given
   pub read-back : (t : Transform) (out : List ℕ) → Columns t → 48 ≤ length out
       → transformOf (take 48 (transformOut t out)) ≡ record { number = 0; transform = t }
+  -- the writer's number is the reader's for the bytes that it would write, then 20
+  pub number : (t : Transform) (room : ℕ) → Columns t
+      → writtenNumber (transformWritten room) ≡ orElse (transformFault (wordBytes (transformWords t))) (roomFault 48 room)

@@ -2,9 +2,11 @@
 use Prim.Native.Nat.{ℕ, _≤_, _<_}
 use mathlib.Core.Path.{_≡_, refl, sym, ap, ap₂, _∙_}
 use mathlib.Core.Bool.{Bool, true, false}
-use mathlib.Core.List.{List}
+use mathlib.Core.List.{List, []}
 use native.Mathlib.Omega.{arith}
 use lib.Dec.{ltb}
+use lib.ListN.{take}
+use lib.Seq.{take-nil, drop-nil}
 use borrow.Author.Tests.{eq-eqb, ne-eqb, lt-ltb, le-ltb, ltb-true, ltb-false}
 use Rattle.fields.proofs.Laws.Checks.{else-zero, else-first, else-second}
 use Rattle.bundle.specs.Children.{Child}
@@ -84,6 +86,22 @@ module _ (a b : List ℕ) (cs ds : List Child) (x : List ℕ) (ha : HasChildren 
         ∙ ap (sourced Default) (place-none (eitherFault a b) b (indexOf b x) faultless (omega (arith, index-unnamed b ds hb x f, count-of b ds hb)))
         ∙ sourced-refused Default _ (λ z. omega arith)
 
+-- what is refused is an empty part of neither
+no-part : (a b x : List ℕ) → (eitherPlace a b x .number ≡ 0 → ⊥) → (eitherPlace a b x .source ≡ Neither) × (eitherPart (eitherPlace a b x) a b ≡ [])
+unfolding sourced
+no-part a b x h = go (ltb (indexOf a x) (count a)) refl
+  where
+    of-neither : (y : Source) (p : Place) → eitherPlace a b x ≡ sourced y p → (eitherPlace a b x .source ≡ Neither) × (eitherPart (eitherPlace a b x) a b ≡ [])
+    of-neither y p e =
+        let k = e ∙ sourced-refused y p (λ z. h (ap (λ (q : EitherPlace). q .number) e ∙ z)) in (
+          ap (λ (q : EitherPlace). q .source) k,
+          ap (λ (q : EitherPlace). eitherPart q a b) k ∙ ap (take (p .len)) (drop-nil (p .at)) ∙ take-nil (p .len),
+        )
+
+    go : (t : Bool) → ltb (indexOf a x) (count a) ≡ t → (eitherPlace a b x .source ≡ Neither) × (eitherPart (eitherPlace a b x) a b ≡ [])
+    go true e = of-neither Site _ (from-site a b x (ltb-true _ _ e))
+    go false e = of-neither Default _ (from-default a b x (ltb-false _ _ e))
+
 pub either-lookups : EitherLookups
 either-lookups =
     record {
@@ -96,4 +114,5 @@ either-lookups =
       default-fault = λ a b x h k.
           let e = else-second (bindFault deepest a) (bindFault deepest b) h in
           faulty a b x (λ z. k (sym e ∙ z)) ∙ ap (λ (n : ℕ). record { number = n; source = Neither; at = 0; len = 0 }) e;
+      empty = no-part;
     }
