@@ -1,0 +1,141 @@
+-- Checks 1, 2 and 3: what passes each of them, and what is handed out then.
+use Prim.Native.Nat.{ℕ, _<_, _≤_}
+use mathlib.Core.Path.{_≡_, ap, _∙_}
+use mathlib.Core.Bool.{Bool, true, cond, _&&_}
+use mathlib.Core.List.{List}
+use lib.Dec.{leb}
+use lib.ListN.{length}
+use borrow.Author.Tests.{leb-true, le-leb, lt-leb, eq-eqb, ne-eqb}
+use Rattle.fields.specs.Bytes.{part}
+use Rattle.fields.specs.Text.{isText, fieldOk}
+use Rattle.fields.specs.Checks.{orElse}
+use Rattle.fields.proofs.Laws.Checks.{cond-pass, cond-refused, and-split, and-join, zero-else, else-first, else-second}
+use Rattle.fields.proofs.Laws.Text.{is-text, text-is}
+use Rattle.header.specs.Header.{WellTexts, limit}
+use Rattle.header.specs.Check.{headerOf, shortFault, textsFault, limitFault, headerFault, handed, refused, headerRead, namesFault}
+
+-- ---- check 1
+
+pub short-pass : (s : List ℕ) → 58 ≤ length s → shortFault s ≡ 0
+unfolding shortFault
+short-pass s h = ap (λ (t : Bool). cond t 0 1) (le-leb 58 (length s) h)
+
+pub short-refused : (s : List ℕ) → length s < 58 → shortFault s ≡ 1
+unfolding shortFault
+short-refused s h = ap (λ (t : Bool). cond t 0 1) (lt-leb 58 (length s) h)
+
+short-passed : (s : List ℕ) → shortFault s ≡ 0 → 58 ≤ length s
+unfolding shortFault
+short-passed s h = leb-true 58 (length s) (cond-pass (leb 58 (length s)) 0 0 h .0)
+
+-- ---- check 2 of the reader
+
+pub texts-pass : (s : List ℕ) → fieldOk (part 12 2 s) ≡ true → fieldOk (part 20 14 s) ≡ true → textsFault s ≡ 0
+unfolding textsFault
+texts-pass s t n = ap (λ (b : Bool). cond b 0 2) (and-join (fieldOk (part 12 2 s)) (fieldOk (part 20 14 s)) t n)
+
+pub texts-passed : (s : List ℕ) → textsFault s ≡ 0 → (fieldOk (part 12 2 s) ≡ true) × (fieldOk (part 20 14 s) ≡ true)
+unfolding textsFault
+texts-passed s h =
+    and-split (fieldOk (part 12 2 s)) (fieldOk (part 20 14 s)) (cond-pass (fieldOk (part 12 2 s) && fieldOk (part 20 14 s)) 1 0 h .0)
+
+pub texts-refused : (s : List ℕ) → (textsFault s ≡ 0 → ⊥) → textsFault s ≡ 2
+unfolding textsFault
+texts-refused s h = cond-refused (fieldOk (part 12 2 s) && fieldOk (part 20 14 s)) 2 h
+
+-- ---- check 2 of the writer
+
+pub names-pass : (t n : List ℕ) → WellTexts t n → namesFault t n ≡ 0
+unfolding namesFault
+names-pass t n w =
+    let texts = and-join (isText t) (isText n) (text-is t (w .type-text)) (text-is n (w .name-text)) in
+    let rest = and-join (leb (length n) 20) (isText t && isText n) (le-leb (length n) 20 (w .name-fits)) texts in
+    ap (λ (b : Bool). cond b 0 2) (and-join (leb (length t) 12) (leb (length n) 20 && (isText t && isText n)) (le-leb (length t) 12 (w .type-fits)) rest)
+
+pub names-passed : (t n : List ℕ) → namesFault t n ≡ 0 → WellTexts t n
+unfolding namesFault
+names-passed t n h =
+    let all = cond-pass (leb (length t) 12 && (leb (length n) 20 && (isText t && isText n))) 1 0 h .0 in
+    let k = and-split (leb (length t) 12) (leb (length n) 20 && (isText t && isText n)) all in
+    let l = and-split (leb (length n) 20) (isText t && isText n) (k .1) in
+    let m = and-split (isText t) (isText n) (l .1) in
+    record {
+      type-text = is-text t (m .0);
+      type-fits = leb-true (length t) 12 (k .0);
+      name-text = is-text n (m .1);
+      name-fits = leb-true (length n) 20 (l .0);
+    }
+
+pub names-refused : (t n : List ℕ) → (namesFault t n ≡ 0 → ⊥) → namesFault t n ≡ 2
+unfolding namesFault
+names-refused t n h = cond-refused (leb (length t) 12 && (leb (length n) 20 && (isText t && isText n))) 2 h
+
+pub names-broken : (t n : List ℕ) → (WellTexts t n → ⊥) → namesFault t n ≡ 2
+names-broken t n h = names-refused t n (λ e. h (names-passed t n e))
+
+-- ---- check 3
+
+pub limit-pass : (n : ℕ) → n ≤ limit → limitFault n ≡ 0
+unfolding limitFault
+limit-pass n h = ap (λ (t : Bool). cond t 0 3) (le-leb n limit h)
+
+pub limit-passed : (n : ℕ) → limitFault n ≡ 0 → n ≤ limit
+unfolding limitFault
+limit-passed n h = leb-true n limit (cond-pass (leb n limit) 2 0 h .0)
+
+pub limit-refused : (n : ℕ) → limit < n → limitFault n ≡ 3
+unfolding limitFault
+limit-refused n h = ap (λ (t : Bool). cond t 0 3) (lt-leb n limit h)
+
+-- ---- the three in order
+
+-- what a stream whose front is accepted as a header satisfies
+pub record Passed (s : List ℕ) : Type 0 where
+  pub long : 58 ≤ length s
+  pub type-ok : fieldOk (part 12 2 s) ≡ true
+  pub name-ok : fieldOk (part 20 14 s) ≡ true
+  pub size-limit : headerOf s .bodySize ≤ limit
+
+pub fault-passed : (s : List ℕ) → headerFault s ≡ 0 → Passed s
+unfolding headerFault
+fault-passed s h =
+    let k = zero-else (shortFault s) (orElse (textsFault s) (limitFault (headerOf s .bodySize))) h in
+    let l = zero-else (textsFault s) (limitFault (headerOf s .bodySize)) (k .1) in
+    let t = texts-passed s (l .0) in
+    record {
+      long = short-passed s (k .0);
+      type-ok = t .0;
+      name-ok = t .1;
+      size-limit = limit-passed (headerOf s .bodySize) (l .1);
+    }
+
+pub header-long : (s : List ℕ) → headerFault s ≡ 0 → 58 ≤ length s
+header-long s h = fault-passed s h .long
+
+-- the fault of a stream that is too short, and of one that is long enough
+pub fault-short : (s : List ℕ) → length s < 58 → headerFault s ≡ 1
+unfolding headerFault
+fault-short s h = ap (λ (n : ℕ). orElse n (orElse (textsFault s) (limitFault (headerOf s .bodySize)))) (short-refused s h)
+
+pub fault-long : (s : List ℕ) → 58 ≤ length s → headerFault s ≡ orElse (textsFault s) (limitFault (headerOf s .bodySize))
+unfolding headerFault
+fault-long s h = else-second (shortFault s) _ (short-pass s h)
+
+-- then 2 comes before 3
+pub fault-texts : (s : List ℕ) → 58 ≤ length s → (textsFault s ≡ 0 → ⊥) → headerFault s ≡ 2
+fault-texts s h k = fault-long s h ∙ else-first (textsFault s) (limitFault (headerOf s .bodySize)) k ∙ texts-refused s k
+
+pub fault-limit : (s : List ℕ) → 58 ≤ length s → textsFault s ≡ 0 → headerFault s ≡ limitFault (headerOf s .bodySize)
+fault-limit s h k = fault-long s h ∙ else-second (textsFault s) (limitFault (headerOf s .bodySize)) k
+
+-- ---- what the reader hands out
+
+pub header-read-passed : (s : List ℕ) → headerFault s ≡ 0 → headerRead s ≡ handed (headerOf s)
+unfolding headerRead
+header-read-passed s h =
+    ap (λ (t : Bool). cond t (handed (headerOf s)) (refused (headerFault s))) (eq-eqb (headerFault s) 0 h)
+
+pub header-read-refused : (s : List ℕ) → (headerFault s ≡ 0 → ⊥) → headerRead s ≡ refused (headerFault s)
+unfolding headerRead
+header-read-refused s h =
+    ap (λ (t : Bool). cond t (handed (headerOf s)) (refused (headerFault s))) (ne-eqb (headerFault s) 0 h)

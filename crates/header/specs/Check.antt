@@ -1,0 +1,92 @@
+-- The header read from the front of a byte stream, judged by checks 1, 2 and 3, and written.
+use Prim.Native.Nat.{ℕ}
+use mathlib.Core.Bool.{cond, _&&_}
+use mathlib.Core.List.{List}
+use lib.Dec.{eqb, leb}
+use lib.ListN.{length}
+use Rattle.fields.specs.declared.Written.{Written}
+use Rattle.fields.specs.Bytes.{part}
+use Rattle.fields.specs.Numbers.{beAt}
+use Rattle.fields.specs.Text.{isText, textOf, fieldOk}
+use Rattle.fields.specs.Checks.{orElse}
+use Rattle.fields.specs.Answer.{writtenOf, roomFault, outAfter}
+use Rattle.header.specs.declared.HeaderRead.{HeaderRead}
+use Rattle.header.specs.declared.HeaderFields.{HeaderFields}
+use Rattle.header.specs.Header.{Header, encodeHeader, limit}
+
+-- ---- the reader
+
+-- the header that stands at the front of these bytes
+unfoldable pub headerOf : List ℕ → Header
+headerOf s =
+    record {
+      version = beAt 2 0 s;
+      typeText = textOf (part 12 2 s);
+      deviceName = textOf (part 20 14 s);
+      timeStamp = beAt 8 34 s;
+      bodySize = beAt 8 42 s;
+      crc = beAt 8 50 s;
+    }
+
+-- check 1 of the header: fewer bytes than 58
+unfoldable pub shortFault : List ℕ → ℕ
+shortFault s = cond (leb 58 (length s)) 0 1
+
+-- check 2: TYPE or DEVICE_NAME is no text field
+unfoldable pub textsFault : List ℕ → ℕ
+textsFault s = cond (fieldOk (part 12 2 s) && fieldOk (part 20 14 s)) 0 2
+
+-- check 3: BODY_SIZE above the limit
+unfoldable pub limitFault : ℕ → ℕ
+limitFault n = cond (leb n limit) 0 3
+
+unfoldable pub headerFault : List ℕ → ℕ
+headerFault s = orElse (shortFault s) (orElse (textsFault s) (limitFault (headerOf s .bodySize)))
+
+-- what an accepted header hands out, and a refused one
+abbrev pub handed : Header → HeaderRead
+handed h =
+    record {
+      number = 0;
+      version = h .version;
+      «type_len» = length (h .typeText);
+      «name_len» = length (h .deviceName);
+      «time_stamp» = h .timeStamp;
+      «body_size» = h .bodySize;
+      crc = h .crc;
+    }
+
+abbrev pub refused : ℕ → HeaderRead
+refused n =
+    record { number = n; version = 0; «type_len» = 0; «name_len» = 0; «time_stamp» = 0; «body_size» = 0; crc = 0 }
+
+unfoldable pub headerRead : List ℕ → HeaderRead
+headerRead s = cond (eqb (headerFault s) 0) (handed (headerOf s)) (refused (headerFault s))
+
+-- ---- the writer
+
+-- check 2 of a writer: names of bytes 1 to 127, at most 12 and 20 of them
+unfoldable pub namesFault : List ℕ → List ℕ → ℕ
+namesFault t n = cond (leb (length t) 12 && (leb (length n) 20 && (isText t && isText n))) 0 2
+
+-- the header given to the writer
+abbrev pub given : HeaderFields → List ℕ → List ℕ → Header
+given f t n =
+    record {
+      version = f .version;
+      typeText = t;
+      deviceName = n;
+      timeStamp = f .«time_stamp»;
+      bodySize = f .«body_size»;
+      crc = f .crc;
+    }
+
+-- into a buffer of this length
+unfoldable pub writeFault : Header → ℕ → ℕ
+writeFault h room = orElse (namesFault (h .typeText) (h .deviceName)) (orElse (limitFault (h .bodySize)) (roomFault 58 room))
+
+unfoldable pub headerWritten : Header → ℕ → Written
+headerWritten h room = writtenOf (writeFault h room) 58
+
+unfoldable pub headerOut : Header → List ℕ → List ℕ
+headerOut h out = outAfter (writeFault h (length out)) (encodeHeader h) out

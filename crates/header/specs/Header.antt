@@ -1,0 +1,56 @@
+-- The header of a message as document 01 describes it, and the 58 bytes that it is written as. Nothing here reads bytes.
+use Prim.Native.Nat.{ℕ, _^_, _<_, _≤_}
+use mathlib.Core.List.{List, [], _∷_}
+use lib.ListN.{length}
+use Rattle.fields.specs.Numbers.{beBytes}
+use Rattle.fields.specs.Text.{Text, textBytes}
+use Rattle.fields.specs.Layout.{join}
+
+pub record Header : Type 0 where
+  pub version : ℕ
+  pub typeText : List ℕ
+  pub deviceName : List ℕ
+  pub timeStamp : ℕ
+  pub bodySize : ℕ
+  pub crc : ℕ
+
+-- V 2, TYPE 12, DEVICE_NAME 20, TIME_STAMP 8, BODY_SIZE 8, CRC 8
+abbrev pub headerWidths : List ℕ
+headerWidths = 2 ∷ 12 ∷ 20 ∷ 8 ∷ 8 ∷ 8 ∷ []
+
+abbrev pub headerFields : Header → List (List ℕ)
+headerFields h =
+    beBytes 2 (h .version)
+    ∷ textBytes 12 (h .typeText)
+    ∷ textBytes 20 (h .deviceName)
+    ∷ beBytes 8 (h .timeStamp)
+    ∷ beBytes 8 (h .bodySize)
+    ∷ beBytes 8 (h .crc)
+    ∷ []
+
+unfoldable pub encodeHeader : Header → List ℕ
+encodeHeader h = join (headerFields h)
+
+-- TYPE and DEVICE_NAME are texts that fit their fields
+pub record WellTexts (t n : List ℕ) : Type 0 where
+  pub type-text : Text t
+  pub type-fits : length t ≤ 12
+  pub name-text : Text n
+  pub name-fits : length n ≤ 20
+
+-- every field fits its width
+pub record HeaderFits (h : Header) : Type 0 where
+  pub version-fits : h .version < 256 ^ 2
+  pub texts : WellTexts (h .typeText) (h .deviceName)
+  pub stamp-fits : h .timeStamp < 256 ^ 8
+  pub size-fits : h .bodySize < 256 ^ 8
+  pub crc-fits : h .crc < 256 ^ 8
+
+-- BODY_SIZE is at most 16,777,216
+abbrev pub limit : ℕ
+limit = 16777216
+
+-- a well formed header: besides, the body's size keeps the limit
+pub record WellHeader (h : Header) : Type 0 where
+  pub fits : HeaderFits h
+  pub size-limit : h .bodySize ≤ limit

@@ -1,0 +1,45 @@
+-- What is proved of headers: a stream's front is accepted as a header exactly when some well formed header is written as it, only one is,
+-- and it is what is handed out; what is refused is 1, 2 or 3 in that order; the writer writes it back.
+use Prim.Native.Nat.{ℕ, _<_, _≤_}
+use mathlib.Core.Path.{_≡_}
+use mathlib.Core.List.{List, _++_}
+use lib.ListN.{length, take, drop}
+use Rattle.fields.specs.declared.Written.the-variants.{Wrote}
+use Rattle.fields.specs.Bytes.{Bytes, part}
+use Rattle.fields.specs.Numbers.{beAt}
+use Rattle.fields.specs.Checks.{orElse}
+use Rattle.fields.specs.Text.{Holds}
+use Rattle.fields.specs.Answer.{writtenNumber, roomFault}
+use Rattle.header.specs.Header.{Header, WellTexts, HeaderFits, WellHeader, encodeHeader, limit}
+use Rattle.header.specs.Check.{headerOf, headerFault, handed, refused, headerRead, headerWritten, headerOut}
+
+-- some well formed header is written as the front of these bytes
+pub record BeginsWith (s : List ℕ) (h : Header) : Type 0 where
+  pub well : WellHeader h
+  pub rest : List ℕ
+  pub bytes : encodeHeader h ++ rest ≡ s
+
+-- the field of n bytes at a place is a text field: it holds some text
+abbrev pub IsTextField : ℕ → ℕ → List ℕ → Type 0
+IsTextField n at s = (t : List ℕ) × Holds (part n at s) t
+
+-- TYPE and DEVICE_NAME are
+abbrev pub TextsHeld : List ℕ → Type 0
+TextsHeld s = IsTextField 12 2 s × IsTextField 20 14 s
+
+pub record Headers : Type 0 where
+  pub width : (h : Header) → length (encodeHeader h) ≡ 58
+  pub accepted : (s : List ℕ) → Bytes s → headerFault s ≡ 0 → BeginsWith s (headerOf s)
+  pub begun : (s : List ℕ) (h : Header) → BeginsWith s h → headerRead s ≡ handed h
+  pub unique : (s : List ℕ) (g h : Header) → BeginsWith s g → BeginsWith s h → g ≡ h
+  -- document 01's number for each refusal, in its order
+  pub short : (s : List ℕ) → length s < 58 → headerRead s ≡ refused 1
+  pub no-text : (s : List ℕ) → 58 ≤ length s → (TextsHeld s → ⊥) → headerRead s ≡ refused 2
+  pub too-long : (s : List ℕ) → 58 ≤ length s → TextsHeld s → limit < beAt 8 42 s → headerRead s ≡ refused 3
+  -- the writer: 2 exactly for what are no texts that fit; else its number is the reader's for the bytes that it would write, then 20;
+  -- it writes back what was read, and keeps the bytes beyond
+  pub names : (h : Header) (room : ℕ) → (WellTexts (h .typeText) (h .deviceName) → ⊥) → writtenNumber (headerWritten h room) ≡ 2
+  pub number : (h : Header) (room : ℕ) → HeaderFits h
+      → writtenNumber (headerWritten h room) ≡ orElse (headerFault (encodeHeader h)) (roomFault 58 room)
+  pub answered-back : (s : List ℕ) (room : ℕ) → Bytes s → headerFault s ≡ 0 → 58 ≤ room → headerWritten (headerOf s) room ≡ Wrote 58
+  pub written-back : (s out : List ℕ) → Bytes s → headerFault s ≡ 0 → 58 ≤ length out → headerOut (headerOf s) out ≡ take 58 s ++ drop 58 out

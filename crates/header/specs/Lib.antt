@@ -1,0 +1,4 @@
+pub mod Header
+pub mod Check
+pub mod Headers
+pub mod TimeStamp

@@ -1,0 +1,208 @@
+// The header of a message: 58 bytes, judged, read and written by themselves; and the two parts of a time stamp.
+pub mod time_stamp;
+
+use fields::Written;
+use fields::number::be16;
+use fields::number::be64;
+use fields::number::put16;
+use fields::number::put64;
+use fields::room_fault;
+use fields::slice::part;
+use fields::text::is_text;
+use fields::text::is_text_field;
+use fields::text::put_text12;
+use fields::text::put_text20;
+use fields::text::text_len;
+use fields::text::text_of;
+ghost use mathlib.Core.Path.{_≡_};
+ghost use lib.ListN.{length};
+ghost use Rattle.fields.specs.Layout.{stores};
+ghost use Rattle.header.specs.Header.{headerWidths, headerFields};
+ghost use Rattle.header.specs.Check.{headerOf, textsFault, limitFault, headerFault, handed, refused, headerRead, namesFault, given, writeFault, headerWritten, headerOut};
+
+// What the reader of a header hands out: document 01's number, 0 for none; the fields, with the lengths of the two texts. All 0 where
+// refused.
+pub struct HeaderRead {
+    pub number: u8,
+    pub version: u16,
+    pub type_len: usize,
+    pub name_len: usize,
+    pub time_stamp: u64,
+    pub body_size: usize,
+    pub crc: u64,
+}
+
+// The fields of a header besides its two texts.
+pub struct HeaderFields {
+    pub version: u16,
+    pub time_stamp: u64,
+    pub body_size: usize,
+    pub crc: u64,
+}
+
+// The text of TYPE.
+pub fn type_text(stream: &[u8]) -> &[u8]
+    ensures { λ r. ⌜ now r ≡ headerOf (now (stream .entry)) .typeText ⌝ }
+{
+    text_of(part(stream, 2, 12))
+}
+
+// The text of DEVICE_NAME.
+pub fn device_name(stream: &[u8]) -> &[u8]
+    ensures { λ r. ⌜ now r ≡ headerOf (now (stream .entry)) .deviceName ⌝ }
+{
+    text_of(part(stream, 14, 20))
+}
+
+// BODY_SIZE.
+fn size_at(stream: &[u8]) -> usize
+    ensures { λ r. ⌜ r ≡ headerOf (now (stream .entry)) .bodySize ⌝ }
+{
+    be64(stream, 42) as usize
+}
+
+// 2 where TYPE or DEVICE_NAME is no text field.
+fn texts_fault(stream: &[u8]) -> u8
+    ensures { λ r. ⌜ r ≡ textsFault (now (stream .entry)) ⌝ }
+{
+    if !is_text_field(part(stream, 2, 12)) {
+        return 2;
+    }
+    if !is_text_field(part(stream, 14, 20)) {
+        return 2;
+    }
+    0
+}
+
+// 3 for a BODY_SIZE above the limit.
+fn limit_fault(size: usize) -> u8
+    ensures { λ r. ⌜ r ≡ limitFault size ⌝ }
+{
+    if size <= 16777216 {
+        return 0;
+    }
+    3
+}
+
+// Checks 1, 2 and 3.
+fn header_fault(stream: &[u8]) -> u8
+    ensures { λ r. ⌜ r ≡ headerFault (now (stream .entry)) ⌝ }
+{
+    if stream.len() < 58 {
+        return 1;
+    }
+    let fault = texts_fault(stream);
+    if fault != 0 {
+        return fault;
+    }
+    limit_fault(size_at(stream))
+}
+
+// The answer of a refusal: its number, and all else 0.
+fn refused(number: u8) -> HeaderRead
+    ensures { λ r. ⌜ r ≡ refused number ⌝ }
+{
+    HeaderRead {
+        number,
+        version: 0,
+        type_len: 0,
+        name_len: 0,
+        time_stamp: 0,
+        body_size: 0,
+        crc: 0,
+    }
+}
+
+// The answer for an accepted header.
+fn handed(stream: &[u8]) -> HeaderRead
+    ensures { λ r. ⌜ r ≡ handed (headerOf (now (stream .entry))) ⌝ }
+{
+    HeaderRead {
+        number: 0,
+        version: be16(stream, 0),
+        type_len: text_len(part(stream, 2, 12)),
+        name_len: text_len(part(stream, 14, 20)),
+        time_stamp: be64(stream, 34),
+        body_size: size_at(stream),
+        crc: be64(stream, 50),
+    }
+}
+
+// Judges the front of a stream as a header, and hands out its fields.
+pub fn read_header(stream: &[u8]) -> HeaderRead
+    ensures { λ r. ⌜ r ≡ headerRead (now (stream .entry)) ⌝ }
+{
+    let fault = header_fault(stream);
+    if fault != 0 {
+        return refused(fault);
+    }
+    handed(stream)
+}
+
+// 2 where these are no names for a writer: bytes 1 to 127, at most 12 of TYPE and 20 of DEVICE_NAME.
+pub fn names_number(type_text: &[u8], device_name: &[u8]) -> u8
+    ensures { λ r. ⌜ r ≡ namesFault (now («type_text» .entry)) (now («device_name» .entry)) ⌝ }
+{
+    if 12 < type_text.len() {
+        return 2;
+    }
+    if 20 < device_name.len() {
+        return 2;
+    }
+    if !is_text(type_text) {
+        return 2;
+    }
+    if !is_text(device_name) {
+        return 2;
+    }
+    0
+}
+
+// 2, 3, then 20 for a buffer of this length.
+fn write_fault(header: HeaderFields, type_text: &[u8], device_name: &[u8], room: usize) -> u8
+    ensures { λ r. ⌜ r ≡ writeFault (given header (now («type_text» .entry)) (now («device_name» .entry))) room ⌝ }
+{
+    let names = names_number(type_text, device_name);
+    if names != 0 {
+        return names;
+    }
+    let limit = limit_fault(header.body_size);
+    if limit != 0 {
+        return limit;
+    }
+    room_fault(58, room)
+}
+
+// Writes the 58 bytes of a header at the front.
+fn put_header(header: HeaderFields, type_text: &[u8], device_name: &[u8], out: &mut [u8])
+    ensures { λ _.
+        ⌜
+        now (out .exit)
+        ≡ stores (now (out .entry)) 0 (headerFields (given header (now («type_text» .entry)) (now («device_name» .entry)))) headerWidths
+        ⌝ }
+{
+    put16(header.version, 0, out);
+    put_text12(type_text, 2, out);
+    put_text20(device_name, 14, out);
+    put64(header.time_stamp, 34, out);
+    put64(header.body_size as u64, 42, out);
+    put64(header.crc, 50, out);
+}
+
+// Writes a header at the front of the buffer, or nothing where it refuses.
+pub fn write_header(
+    header: HeaderFields,
+    type_text: &[u8],
+    device_name: &[u8],
+    out: &mut [u8],
+) -> Written
+    ensures answer { λ r. ⌜ r ≡ headerWritten (given header (now («type_text» .entry)) (now («device_name» .entry))) (length (now (out .entry))) ⌝ }
+    ensures bytes { λ _. ⌜ now (out .exit) ≡ headerOut (given header (now («type_text» .entry)) (now («device_name» .entry))) (now (out .entry)) ⌝ }
+{
+    let fault = write_fault(header, type_text, device_name, out.len());
+    if fault != 0 {
+        return Written::Refused(fault);
+    }
+    put_header(header, type_text, device_name, out);
+    Written::Wrote(58)
+}

@@ -1,0 +1,121 @@
+-- The borders P4 to P6. Assumes nothing.
+use Prim.Native.Nat.{ℕ, _+_, _^_, _<_, _≤_}
+use mathlib.Core.Path.{_≡_, refl, sym, ap, _∙_}
+use mathlib.Core.Logic.{inl, inr}
+use mathlib.Core.List.{List, [], _∷_, _++_, append-assoc, append-nil}
+use native.Mathlib.Omega.{arith}
+use lib.ListN.{length}
+use Rattle.fields.specs.Bytes.{Bytes}
+use Rattle.fields.specs.Numbers.{beBytes}
+use Rattle.fields.specs.Text.{Text, textBytes}
+use Rattle.fields.proofs.Laws.Bytes.{bytes-nil}
+use Rattle.crc64.specs.Crc.{crcOf}
+use Rattle.crc64.proofs.Laws.{crc-lt}
+use Rattle.header.specs.Header.{Header, encodeHeader}
+use Rattle.metadata.specs.Metadata.{absent, encodeMetadata, WellMetadata}
+use Rattle.content.specs.Tree.{other, Opaque}
+use Rattle.content.specs.Tree as tree
+use Rattle.message.specs.declared.Answer.{Answer}
+use Rattle.message.specs.Body.{encodeBody}
+use Rattle.message.specs.Message.{Message, Parts, partsOf, bodyOf, headerFor, encodeParts, encode, WellFormed}
+use Rattle.message.specs.Check.{refused, readOf}
+use Rattle.message.specs.Demand2.{Begins}
+use Rattle.message.specs.Numbers.{Whole, Sound}
+use Rattle.message.specs.Examples.{ofVersion2, getStatusText, body12, Accepted70, Examples}
+use Rattle.message.proofs.Laws.Messages.{demand-2}
+use Rattle.message.proofs.Laws.Numbers.{refusals}
+
+-- a header of version 2 for a body
+abbrev headerOfVersion2 : List ℕ → List ℕ → ℕ → List ℕ → Header
+headerOfVersion2 t n stamp b =
+    record { version = 2; typeText = t; deviceName = n; timeStamp = stamp; bodySize = length b; crc = crcOf b }
+
+front : (t n : List ℕ) (stamp : ℕ) (b : List ℕ) → encodeHeader (headerOfVersion2 t n stamp b) ++ b ≡ ofVersion2 t n stamp b
+unfolding encodeHeader
+front t n stamp b = simp (append-assoc, append-nil)
+
+-- ---- P5
+
+status : List ℕ → ℕ → ℕ → Message
+status n stamp id =
+    record { version = 2; deviceName = n; timeStamp = stamp; id = id; further = []; content = other getStatusText []; metadata = absent }
+
+opaque : Opaque getStatusText
+opaque =
+    record {
+      no-transform = λ e. let z : _≡_ {A = ℕ} 71 84 = cc in omega arith;
+      no-position = λ e. let z : _≡_ {A = ℕ} 71 80 = cc in omega arith;
+      no-image = λ e. let z : _≡_ {A = ℕ} 71 73 = cc in omega arith;
+      no-bind = λ e. let z : _≡_ {A = ℕ} 71 66 = cc in omega arith;
+    }
+
+status-body : (n : List ℕ) (stamp id : ℕ) → bodyOf (partsOf (status n stamp id)) ≡ body12 id
+unfolding status encodeBody encodeMetadata tree.encode beBytes
+status-body n stamp id = refl
+
+status-begins : (n : List ℕ) (stamp id : ℕ) → Text n → length n ≤ 20 → stamp < 256 ^ 8 → id < 256 ^ 4
+    → Begins (ofVersion2 getStatusText n stamp (body12 id)) (status n stamp id)
+unfolding status encodeMetadata WellMetadata tree.encode tree.WellFormed encodeParts beBytes
+status-begins n stamp id t l s i =
+    record {
+      well =
+          record {
+            texts =
+                record {
+                  type-text = ((omega arith, omega arith), ((omega arith, omega arith), ((omega arith, omega arith), ((omega arith, omega arith), ((omega arith, omega arith), ((omega arith, omega arith), ((omega arith, omega arith), ((omega arith, omega arith), ((omega arith, omega arith), ((omega arith, omega arith), tt))))))))));
+                  type-fits = omega arith;
+                  name-text = t;
+                  name-fits = l;
+                };
+            stamp-fits = s;
+            sections = inr (refl, record { id-fits = i; further-bytes = bytes-nil; further-fits = omega arith; metadata-fits = omega arith });
+            content = (opaque, bytes-nil);
+            metadata = tt;
+            size-limit = omega (arith, ap length (status-body n stamp id));
+          };
+      rest = [];
+      bytes = append-nil (encode (status n stamp id)) ∙ ap (λ (b : List ℕ). encodeHeader (headerOfVersion2 getStatusText n stamp b) ++ b) (status-body n stamp id) ∙ front getStatusText n stamp (body12 id);
+    }
+
+p5 : (n : List ℕ) (stamp id : ℕ) → Text n → length n ≤ 20 → stamp < 256 ^ 8 → id < 256 ^ 4
+    → Accepted70 (ofVersion2 getStatusText n stamp (body12 id))
+unfolding status tree.encode beBytes
+p5 n stamp id t l s i =
+    let b = status-begins n stamp id t l s i in
+    let m : Message = status n stamp id in
+    record {
+      number = demand-2 .begun _ m b;
+      step = demand-2 .step _ m b ∙ demand-2 .size m ∙ ap (λ (x : List ℕ). 58 + length x) (status-body n stamp id);
+      content = ap (λ (p : Parts). p .sections .content) (demand-2 .handed-out _ m b);
+    }
+
+-- ---- P6
+
+p6 : (t n : List ℕ) (stamp : ℕ) (b : List ℕ) → Text t → length t ≤ 12 → Text n → length n ≤ 20 → stamp < 256 ^ 8 → Bytes b → length b ≡ 11
+    → readOf (ofVersion2 t n stamp b) ≡ refused 6 69
+p6 t n stamp b tt′ tl nt nl s bs l =
+    let h : Header = headerOfVersion2 t n stamp b in
+    let w : Whole (ofVersion2 t n stamp b) h b =
+    record {
+      well =
+          record {
+            fits =
+                record {
+                  version-fits = omega arith;
+                  texts = record { type-text = tt′; type-fits = tl; name-text = nt; name-fits = nl };
+                  stamp-fits = s;
+                  size-fits = omega arith;
+                  crc-fits = crc-lt b;
+                };
+            size-limit = omega arith;
+          };
+      size = refl;
+      bytes = bs;
+      rest = [];
+      front = ap (λ (x : List ℕ). encodeHeader h ++ x) (append-nil b) ∙ front t n stamp b;
+    } in
+    refusals .extended (ofVersion2 t n stamp b) h b w (record { version = inr refl; crc = refl }) refl (inl (omega arith))
+    ∙ ap (λ (k : ℕ). refused 6 (58 + k)) l
+
+pub examples : Examples
+examples = record { p4 = λ s h. refusals .short s (omega arith); p5 = p5; p6 = p6 }

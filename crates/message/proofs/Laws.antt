@@ -1,0 +1,6 @@
+pub mod Body
+pub mod Stream
+pub mod Read
+pub mod Writer
+pub mod Messages
+pub mod Numbers

@@ -1,0 +1,192 @@
+-- What the reader answers to the front of a byte stream, for any bytes: document 01's number, the step, and where the message's parts stand.
+use Prim.Native.Nat.{ℕ, _+_, _-_}
+use mathlib.Core.Bool.{Bool, cond, _&&_, _||_}
+use mathlib.Core.List.{List}
+use lib.Dec.{eqb, leb}
+use lib.ListN.{length}
+use Rattle.fields.specs.Bytes.{part}
+use Rattle.fields.specs.Numbers.{beAt}
+use Rattle.fields.specs.Checks.{orElse}
+use Rattle.crc64.specs.Crc.{crcOf}
+use Rattle.header.specs.declared.HeaderRead.{HeaderRead}
+use Rattle.header.specs.Check.{headerOf, headerFault}
+use Rattle.header.specs.Check as header
+use Rattle.metadata.specs.Check.{metadataFault}
+use Rattle.content.specs.Check.{contentFault, deepest}
+use Rattle.message.specs.declared.Answer.{Answer}
+use Rattle.message.specs.declared.body.Places.{Places}
+use Rattle.message.specs.Body.{Sections}
+use Rattle.message.specs.Message.{Parts}
+
+-- ---- the sections of a body
+
+-- EXT_HEADER_SIZE, and METADATA_SIZE
+abbrev pub extendedSize : List ℕ → ℕ
+extendedSize b = beAt 2 0 b
+
+abbrev pub metadataSize : List ℕ → ℕ
+metadataSize b = beAt 2 2 b
+
+-- check 6, of V 2: a body of 12 bytes, EXT_HEADER_SIZE at least 12, the reserved word 0, and both sizes within BODY_SIZE
+unfoldable pub extendedOk : List ℕ → Bool
+extendedOk b =
+    leb 12 (length b)
+    && (leb 12 (extendedSize b)
+    && (eqb (beAt 4 8 b) 0
+    && leb (extendedSize b + metadataSize b) (length b)))
+
+unfoldable pub bodyFault : ℕ → List ℕ → ℕ
+bodyFault version b = cond (eqb version 2) (cond (extendedOk b) 0 6) 0
+
+-- where the sections stand in the body: the content has BODY_SIZE - EXT_HEADER_SIZE - METADATA_SIZE bytes
+abbrev pub extendedPlaces : List ℕ → Places
+extendedPlaces b =
+    record {
+      id = beAt 4 4 b;
+      «further_at» = 12;
+      «further_len» = extendedSize b - 12;
+      «content_at» = extendedSize b;
+      «content_len» = length b - (extendedSize b + metadataSize b);
+      «metadata_at» = length b - metadataSize b;
+      «metadata_len» = metadataSize b;
+    }
+
+-- V 1: the body is the content
+abbrev pub plainPlaces : List ℕ → Places
+plainPlaces b =
+    record {
+      id = 0;
+      «further_at» = 0;
+      «further_len» = 0;
+      «content_at» = 0;
+      «content_len» = length b;
+      «metadata_at» = length b;
+      «metadata_len» = 0;
+    }
+
+unfoldable pub placesOf : ℕ → List ℕ → Places
+placesOf version b = cond (eqb version 2) (extendedPlaces b) (plainPlaces b)
+
+-- the sections at these places
+abbrev pub sectionsAt : Places → List ℕ → Sections
+sectionsAt p b =
+    record {
+      id = p .id;
+      further = part (p .«further_len») (p .«further_at») b;
+      content = part (p .«content_len») (p .«content_at») b;
+      metadata = part (p .«metadata_len») (p .«metadata_at») b;
+    }
+
+abbrev pub sectionsOf : ℕ → List ℕ → Sections
+sectionsOf version b = sectionsAt (placesOf version b) b
+
+-- ---- the checks in order
+
+-- check 1 of the whole: fewer bytes than 58 + BODY_SIZE
+unfoldable pub wholeFault : List ℕ → ℕ
+wholeFault s = cond (leb (58 + headerOf s .bodySize) (length s)) 0 1
+
+-- check 4
+unfoldable pub versionFault : ℕ → ℕ
+versionFault version = cond (eqb version 1 || eqb version 2) 0 4
+
+-- check 5, of the whole body
+unfoldable pub crcFault : ℕ → List ℕ → ℕ
+crcFault crc b = cond (eqb (crcOf b) crc) 0 5
+
+-- check 7, and those of the content of the type with this text
+unfoldable pub sectionsFault : List ℕ → Sections → ℕ
+sectionsFault t x = orElse (metadataFault (x .metadata)) (contentFault deepest t (x .content))
+
+-- checks 4 to 11, of a body whose header has this version, CRC and type
+unfoldable pub bodyChecks : ℕ → ℕ → List ℕ → List ℕ → ℕ
+bodyChecks version crc t b =
+    orElse (versionFault version)
+    (orElse (crcFault crc b)
+    (orElse (bodyFault version b) (sectionsFault t (sectionsOf version b))))
+
+abbrev pub bodyAt : List ℕ → List ℕ
+bodyAt s = part (headerOf s .bodySize) 58 s
+
+-- the checks before a step is known: 1, 2, 3, 1
+unfoldable pub frontFault : List ℕ → ℕ
+frontFault s = orElse (headerFault s) (wholeFault s)
+
+unfoldable pub numberOf : List ℕ → ℕ
+numberOf s = orElse (frontFault s) (bodyChecks (headerOf s .version) (headerOf s .crc) (headerOf s .typeText) (bodyAt s))
+
+-- document 01's step: 0 with 1, 2 and 3, otherwise 58 + BODY_SIZE
+unfoldable pub stepOf : List ℕ → ℕ
+stepOf s = cond (eqb (frontFault s) 0) (58 + headerOf s .bodySize) 0
+
+-- ---- the answer
+
+-- a refusal: all but the number and the step is 0
+abbrev pub refused : ℕ → ℕ → Answer
+refused number step =
+    record {
+      number = number;
+      step = step;
+      version = 0;
+      «type_len» = 0;
+      «name_len» = 0;
+      «time_stamp» = 0;
+      id = 0;
+      «further_at» = 0;
+      «further_len» = 0;
+      «content_at» = 0;
+      «content_len» = 0;
+      «metadata_at» = 0;
+      «metadata_len» = 0;
+    }
+
+-- a message with this header whose sections stand at these places of its body; the answer's places are those in the stream
+abbrev pub accepted : HeaderRead → Places → Answer
+accepted h p =
+    record {
+      number = 0;
+      step = 58 + h .«body_size»;
+      version = h .version;
+      «type_len» = h .«type_len»;
+      «name_len» = h .«name_len»;
+      «time_stamp» = h .«time_stamp»;
+      id = p .id;
+      «further_at» = 58 + p .«further_at»;
+      «further_len» = p .«further_len»;
+      «content_at» = 58 + p .«content_at»;
+      «content_len» = p .«content_len»;
+      «metadata_at» = 58 + p .«metadata_at»;
+      «metadata_len» = p .«metadata_len»;
+    }
+
+unfoldable pub readOf : List ℕ → Answer
+readOf s =
+    cond (eqb (numberOf s) 0) (accepted (header.handed (headerOf s)) (placesOf (headerOf s .version) (bodyAt s))) (refused (numberOf s) (stepOf s))
+
+-- ---- the parts of a stream that an answer names; for an answer that is not this stream's, as many of their bytes as there are
+
+abbrev pub typeIn : List ℕ → Answer → List ℕ
+typeIn s a = part (a .«type_len») 2 s
+
+abbrev pub nameIn : List ℕ → Answer → List ℕ
+nameIn s a = part (a .«name_len») 14 s
+
+abbrev pub furtherIn : List ℕ → Answer → List ℕ
+furtherIn s a = part (a .«further_len») (a .«further_at») s
+
+abbrev pub contentIn : List ℕ → Answer → List ℕ
+contentIn s a = part (a .«content_len») (a .«content_at») s
+
+abbrev pub metadataIn : List ℕ → Answer → List ℕ
+metadataIn s a = part (a .«metadata_len») (a .«metadata_at») s
+
+-- all that an answer hands out of a stream
+abbrev pub handed : List ℕ → Answer → Parts
+handed s a =
+    record {
+      version = a .version;
+      typeText = typeIn s a;
+      deviceName = nameIn s a;
+      timeStamp = a .«time_stamp»;
+      sections = record { id = a .id; further = furtherIn s a; content = contentIn s a; metadata = metadataIn s a };
+    }

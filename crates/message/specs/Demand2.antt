@@ -1,0 +1,36 @@
+-- Demand 2: the reader accepts the front of a byte stream exactly when some message is those bytes. That message is the only one, and it is
+-- what is handed out. Given room, the writer writes it back byte for byte.
+use Prim.Native.Nat.{ℕ, _+_, _≤_}
+use mathlib.Core.Path.{_≡_}
+use mathlib.Core.List.{List, _++_}
+use lib.ListN.{length, take, drop}
+use Rattle.fields.specs.declared.Written.the-variants.{Wrote}
+use Rattle.fields.specs.Bytes.{Bytes}
+use Rattle.message.specs.Message.{Message, WellFormed, partsOf, bodyOf, encode}
+use Rattle.message.specs.Check.{readOf, handed}
+use Rattle.message.specs.Writer.{messageWritten, messageOut}
+
+-- the bytes of the message m are the front of the stream s
+pub record Begins (s : List ℕ) (m : Message) : Type 0 where
+  pub well : WellFormed m
+  pub rest : List ℕ
+  pub bytes : encode m ++ rest ≡ s
+
+-- readOf is what `read` answers, `handed` what the answer and the functions for its parts give of the stream, messageWritten and
+-- messageOut what `write` answers and leaves in the buffer
+pub record Demand2 : Type 0 where
+  -- accepted exactly when some message is the front of the stream
+  pub accepted : (s : List ℕ) → Bytes s → readOf s .number ≡ 0 → (m : Message) × Begins s m
+  pub begun : (s : List ℕ) (m : Message) → Begins s m → readOf s .number ≡ 0
+  -- it is the only one
+  pub only-one : (s : List ℕ) (m n : Message) → Begins s m → Begins s n → m ≡ n
+  -- it is what is handed out, and the step is its length
+  pub handed-out : (s : List ℕ) (m : Message) → Begins s m → handed s (readOf s) ≡ partsOf m
+  pub step : (s : List ℕ) (m : Message) → Begins s m → readOf s .step ≡ length (encode m)
+  -- which is 58 + BODY_SIZE
+  pub size : (m : Message) → length (encode m) ≡ 58 + length (bodyOf (partsOf m))
+  -- the writer, given what is handed out and room, writes those bytes, and keeps the bytes beyond
+  pub answered-back : (s : List ℕ) (room : ℕ) → Bytes s → readOf s .number ≡ 0 → readOf s .step ≤ room
+      → messageWritten (handed s (readOf s)) room ≡ Wrote (readOf s .step)
+  pub written-back : (s out : List ℕ) → Bytes s → readOf s .number ≡ 0 → readOf s .step ≤ length out
+      → messageOut (handed s (readOf s)) out ≡ take (readOf s .step) s ++ drop (readOf s .step) out

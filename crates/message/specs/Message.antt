@@ -1,0 +1,79 @@
+-- A message as document 01 describes it: its content a tree, its metadata a list of entries; and the bytes that it is written as. Nothing
+-- here reads bytes.
+use Prim.Native.Nat.{ℕ, _^_, _<_, _≤_}
+use mathlib.Core.List.{List, _++_}
+use lib.ListN.{length}
+use Rattle.crc64.specs.Crc.{crcOf}
+use Rattle.header.specs.Header.{Header, WellTexts, encodeHeader, limit}
+use Rattle.metadata.specs.Metadata.{Metadata, WellMetadata, encodeMetadata}
+use Rattle.content.specs.Tree.{Content, typeText}
+use Rattle.content.specs.Tree as tree
+use Rattle.content.specs.Check.{deepest}
+use Rattle.message.specs.Body.{Sections, WellSections, encodeBody}
+
+-- the type is the content's
+pub record Message : Type 0 where
+  pub version : ℕ
+  pub deviceName : List ℕ
+  pub timeStamp : ℕ
+  pub id : ℕ
+  pub further : List ℕ
+  pub content : Content
+  pub metadata : Metadata
+
+-- ---- its bytes
+
+-- a message whose content and metadata are bytes: what the reader hands out, and the writer is given
+pub record Parts : Type 0 where
+  pub version : ℕ
+  pub typeText : List ℕ
+  pub deviceName : List ℕ
+  pub timeStamp : ℕ
+  pub sections : Sections
+
+abbrev pub partsOf : Message → Parts
+partsOf m =
+    record {
+      version = m .version;
+      typeText = typeText (m .content);
+      deviceName = m .deviceName;
+      timeStamp = m .timeStamp;
+      sections =
+          record {
+            id = m .id;
+            further = m .further;
+            content = tree.encode (m .content);
+            metadata = encodeMetadata (m .metadata);
+          };
+    }
+
+abbrev pub bodyOf : Parts → List ℕ
+bodyOf p = encodeBody (p .version) (p .sections)
+
+-- BODY_SIZE is the body's length, and the CRC is of the whole body
+abbrev pub headerFor : Parts → Header
+headerFor p =
+    record {
+      version = p .version;
+      typeText = p .typeText;
+      deviceName = p .deviceName;
+      timeStamp = p .timeStamp;
+      bodySize = length (bodyOf p);
+      crc = crcOf (bodyOf p);
+    }
+
+unfoldable pub encodeParts : Parts → List ℕ
+encodeParts p = encodeHeader (headerFor p) ++ bodyOf p
+
+abbrev pub encode : Message → List ℕ
+encode m = encodeParts (partsOf m)
+
+-- ---- what document 01 asks of a message
+
+pub record WellFormed (m : Message) : Type 0 where
+  pub texts : WellTexts (typeText (m .content)) (m .deviceName)
+  pub stamp-fits : m .timeStamp < 256 ^ 8
+  pub sections : WellSections (m .version) (partsOf m .sections)
+  pub content : tree.WellFormed (m .content) deepest
+  pub metadata : WellMetadata (m .metadata)
+  pub size-limit : length (bodyOf (partsOf m)) ≤ limit

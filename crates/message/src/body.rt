@@ -1,0 +1,170 @@
+// The body of a message. For version 2 it is an extended header, further bytes, content and metadata; for version 1 it is the content.
+// Nothing else knows where the fields of the extended header stand.
+use fields::number::be16;
+use fields::number::be32;
+ghost use mathlib.Core.Path.{_≡_};
+ghost use mathlib.Core.Bool.{true};
+ghost use Prim.Native.Nat.{_+_, _≤_};
+ghost use lib.ListN.{length};
+ghost use lib.Seq.{sets};
+ghost use Rattle.fields.specs.Layout.{join};
+ghost use Rattle.message.specs.Body.{extendedFields, encodeBody};
+ghost use Rattle.message.specs.Check.{extendedOk, bodyFault, placesOf};
+ghost use Rattle.message.specs.Writer.{sectionsGiven, bodyLength, fits};
+ghost use Rattle.header.specs.Header.{limit};
+ghost use lib.Dec.{leb};
+
+// MSG_ID, and where the sections stand in the body.
+pub struct Places {
+    pub id: u32,
+    pub further_at: usize,
+    pub further_len: usize,
+    pub content_at: usize,
+    pub content_len: usize,
+    pub metadata_at: usize,
+    pub metadata_len: usize,
+}
+
+// Check 6 of a body of version 2. The two sizes are added in a wider type than theirs.
+fn is_extended(body: &[u8]) -> bool
+    ensures { λ r. ⌜ r ≡ extendedOk (now (body .entry)) ⌝ }
+{
+    if body.len() < 12 {
+        return false;
+    }
+    let size = be16(body, 0) as usize;
+    if size < 12 {
+        return false;
+    }
+    if be32(body, 8) != 0 {
+        return false;
+    }
+    size + be16(body, 2) as usize <= body.len()
+}
+
+// Document 01's number for the layout of a body: 6, or 0 for none.
+pub fn body_number(version: u16, body: &[u8]) -> u8
+    ensures { λ r. ⌜ r ≡ bodyFault version (now (body .entry)) ⌝ }
+{
+    if version != 2 {
+        return 0;
+    }
+    if is_extended(body) {
+        return 0;
+    }
+    6
+}
+
+// Where the sections of a body without fault stand.
+pub fn sections(version: u16, body: &[u8]) -> Places
+    requires { ⌜ bodyFault version (now body) ≡ 0 ⌝ }
+    ensures { λ r. ⌜ r ≡ placesOf version (now (body .entry)) ⌝ }
+{
+    let n = body.len();
+    if version != 2 {
+        return Places {
+            id: 0,
+            further_at: 0,
+            further_len: 0,
+            content_at: 0,
+            content_len: n,
+            metadata_at: n,
+            metadata_len: 0,
+        };
+    }
+    let size = be16(body, 0) as usize;
+    let metadata_len = be16(body, 2) as usize;
+    Places {
+        id: be32(body, 4),
+        further_at: 12,
+        further_len: size - 12,
+        content_at: size,
+        content_len: n - (size + metadata_len),
+        metadata_at: n - metadata_len,
+        metadata_len: metadata_len,
+    }
+}
+
+// Do sections of these lengths keep the limit? Each length is compared first, so that their sum does not wrap.
+pub fn within_limit(version: u16, further: usize, content: usize, metadata: usize) -> bool
+    ensures { λ r. ⌜ r ≡ leb (bodyLength version further content metadata) limit ⌝ }
+{
+    if 16777216 < content {
+        return false;
+    }
+    if version != 2 {
+        return true;
+    }
+    if 16777216 < further {
+        return false;
+    }
+    if 16777216 < metadata {
+        return false;
+    }
+    12 + further + content + metadata <= 16777216
+}
+
+// The body's length, for sections that keep the limit.
+pub fn body_len(version: u16, further: usize, content: usize, metadata: usize) -> usize
+    requires { ⌜ bodyLength version further content metadata ≤ limit ⌝ }
+    ensures { λ r. ⌜ r ≡ bodyLength version further content metadata ⌝ }
+{
+    if version != 2 {
+        return content;
+    }
+    12 + further + content + metadata
+}
+
+// Check 6 of a writer: can a body of this version have such sections?
+pub fn is_fit(version: u16, id: u32, further: usize, metadata: usize) -> bool
+    ensures { λ r. ⌜ r ≡ fits version id further metadata ⌝ }
+{
+    if version == 2 {
+        if 65523 < further {
+            return false;
+        }
+        return metadata <= 65535;
+    }
+    if id != 0 {
+        return false;
+    }
+    if further != 0 {
+        return false;
+    }
+    metadata == 0
+}
+
+// Writes a body of version 2 to the front of a buffer.
+fn put_extended(id: u32, further: &[u8], content: &[u8], metadata: &[u8], out: &mut [u8])
+    requires { ⌜ (12 + length (now further) ≤ 65535) × (length (now metadata) ≤ 65535) × (length (now content) ≤ limit) ⌝ }
+    ensures { λ _. ⌜ now (out .exit) ≡ sets (now (out .entry)) 0 (join (extendedFields (sectionsGiven id (now (further .entry)) (now (content .entry)) (now (metadata .entry))))) ⌝ }
+{
+    let content_at = 12 + further.len();
+    let metadata_at = content_at + content.len();
+    fields::number::put16(content_at as u16, 0, out);
+    fields::number::put16(metadata.len() as u16, 2, out);
+    fields::number::put32(id, 4, out);
+    fields::number::put32(0, 8, out);
+    fields::store::put(further, 12, out);
+    fields::store::put(content, content_at, out);
+    fields::store::put(metadata, metadata_at, out);
+}
+
+// Writes a body to the front of a buffer.
+pub fn put_body(
+    version: u16,
+    id: u32,
+    further: &[u8],
+    content: &[u8],
+    metadata: &[u8],
+    out: &mut [u8],
+)
+    requires { ⌜ (fits version id (length (now further)) (length (now metadata)) ≡ true) × (length (now content) ≤ limit) ⌝ }
+    ensures { λ _. ⌜ now (out .exit) ≡ sets (now (out .entry)) 0 (encodeBody version (sectionsGiven id (now (further .entry)) (now (content .entry)) (now (metadata .entry)))) ⌝ }
+{
+    if version == 2 {
+        put_extended(id, further, content, metadata, out);
+        return;
+    }
+    fields::store::put(content, 0, out);
+}

@@ -1,0 +1,297 @@
+// Whole messages: the reader of the front of a byte stream, the parts that its answer names, and the writer.
+mod body;
+
+use fields::Written;
+ghost use mathlib.Core.Path.{_≡_};
+ghost use Prim.Native.Nat.{_+_, _≤_};
+ghost use mathlib.Core.List.{_++_};
+ghost use lib.ListN.{length, drop};
+ghost use Rattle.fields.specs.Checks.{orElse};
+ghost use Rattle.header.specs.Header.{limit};
+ghost use Rattle.metadata.specs.Check.{metadataFault};
+ghost use Rattle.content.specs.Check.{contentFault, deepest};
+ghost use Rattle.message.specs.Message.{bodyOf, encodeParts};
+ghost use Rattle.message.specs.Check.{versionFault, bodyFault, bodyChecks, placesOf, refused, accepted, readOf, typeIn, nameIn, furtherIn, contentIn, metadataIn};
+ghost use Rattle.message.specs.Writer.{given, sectionsGiven, sectionsChecks, writeChecks, messageWritten, messageOut};
+
+// What the reader makes of the front of a stream: document 01's number, 0 for accepted, and its step, the length of the message, 0 where
+// that is not known. Then the message's fields; the places of its parts are relative to the slice that was read. All of these are 0 where
+// refused.
+pub struct Answer {
+    pub number: u8,
+    pub step: usize,
+    pub version: u16,
+    pub type_len: usize,
+    pub name_len: usize,
+    pub time_stamp: u64,
+    pub id: u32,
+    pub further_at: usize,
+    pub further_len: usize,
+    pub content_at: usize,
+    pub content_len: usize,
+    pub metadata_at: usize,
+    pub metadata_len: usize,
+}
+
+// The fields of a message that have a fixed size, as the writer is given them: V, TIME_STAMP, MSG_ID.
+pub struct FixedFields {
+    pub version: u16,
+    pub time_stamp: u64,
+    pub id: u32,
+}
+
+// ---- the reader
+
+fn refusal(number: u8, step: usize) -> Answer
+    ensures { λ r. ⌜ r ≡ refused number step ⌝ }
+{
+    Answer {
+        number: number,
+        step: step,
+        version: 0,
+        type_len: 0,
+        name_len: 0,
+        time_stamp: 0,
+        id: 0,
+        further_at: 0,
+        further_len: 0,
+        content_at: 0,
+        content_len: 0,
+        metadata_at: 0,
+        metadata_len: 0,
+    }
+}
+
+// Check 4.
+fn version_number(version: u16) -> u8
+    ensures { λ r. ⌜ r ≡ versionFault version ⌝ }
+{
+    if version == 1 {
+        return 0;
+    }
+    if version == 2 {
+        return 0;
+    }
+    4
+}
+
+// Check 7, and those of the content.
+fn contents_number(type_text: &[u8], content: &[u8], metadata: &[u8]) -> u8
+    ensures { λ r. ⌜ r ≡ orElse (metadataFault (now (metadata .entry))) (contentFault deepest (now («type_text» .entry)) (now (content .entry))) ⌝ }
+{
+    let fault = metadata::metadata_number(metadata);
+    if fault != 0 {
+        return fault;
+    }
+    content::content_number(type_text, content)
+}
+
+// Checks 4 to 11, of a message that is there whole.
+fn body_checks(version: u16, crc: u64, type_text: &[u8], body: &[u8]) -> u8
+    ensures { λ r. ⌜ r ≡ bodyChecks version crc (now («type_text» .entry)) (now (body .entry)) ⌝ }
+{
+    let fault = version_number(version);
+    if fault != 0 {
+        return fault;
+    }
+    if crc64::crc64(body) != crc {
+        return 5;
+    }
+    let fault = body::body_number(version, body);
+    if fault != 0 {
+        return fault;
+    }
+    let places = body::sections(version, body);
+    contents_number(
+        type_text,
+        fields::slice::part(body, places.content_at, places.content_len),
+        fields::slice::part(body, places.metadata_at, places.metadata_len),
+    )
+}
+
+// The answer to an accepted message.
+fn accept(header: header::HeaderRead, body: &[u8]) -> Answer
+    requires { ⌜ (bodyFault (header .version) (now body) ≡ 0) × (header .«body_size» ≤ limit) × (length (now body) ≤ limit) ⌝ }
+    ensures { λ r. ⌜ r ≡ accepted header (placesOf (header .version) (now (body .entry))) ⌝ }
+{
+    let places = body::sections(header.version, body);
+    Answer {
+        number: 0,
+        step: 58 + header.body_size,
+        version: header.version,
+        type_len: header.type_len,
+        name_len: header.name_len,
+        time_stamp: header.time_stamp,
+        id: places.id,
+        further_at: 58 + places.further_at,
+        further_len: places.further_len,
+        content_at: 58 + places.content_at,
+        content_len: places.content_len,
+        metadata_at: 58 + places.metadata_at,
+        metadata_len: places.metadata_len,
+    }
+}
+
+// Reads the message at the front of a stream. What follows it starts at the answer's step.
+pub fn read(stream: &[u8]) -> Answer
+    ensures { λ r. ⌜ r ≡ readOf (now (stream .entry)) ⌝ }
+{
+    let header = header::read_header(stream);
+    let number = header.number;
+    if number != 0 {
+        return refusal(number, 0);
+    }
+    let size = header.body_size;
+    if stream.len() < 58 + size {
+        return refusal(1, 0);
+    }
+    let body = fields::slice::part(stream, 58, size);
+    let fault = body_checks(header.version, header.crc, header::type_text(stream), body);
+    if fault != 0 {
+        return refusal(fault, 58 + size);
+    }
+    accept(header, body)
+}
+
+// ---- the parts that an answer names. They are cut from the stream, which is not read again; for an answer to another stream they hold as
+// many of the bytes named as there are.
+
+pub fn type_text(stream: &[u8], answer: Answer) -> &[u8]
+    ensures { λ r. ⌜ now r ≡ typeIn (now (stream .entry)) answer ⌝ }
+{
+    fields::slice::part(stream, 2, answer.type_len)
+}
+
+pub fn device_name(stream: &[u8], answer: Answer) -> &[u8]
+    ensures { λ r. ⌜ now r ≡ nameIn (now (stream .entry)) answer ⌝ }
+{
+    fields::slice::part(stream, 14, answer.name_len)
+}
+
+// The bytes of the extended header past its twelve.
+pub fn further(stream: &[u8], answer: Answer) -> &[u8]
+    ensures { λ r. ⌜ now r ≡ furtherIn (now (stream .entry)) answer ⌝ }
+{
+    fields::slice::part(stream, answer.further_at, answer.further_len)
+}
+
+pub fn content(stream: &[u8], answer: Answer) -> &[u8]
+    ensures { λ r. ⌜ now r ≡ contentIn (now (stream .entry)) answer ⌝ }
+{
+    fields::slice::part(stream, answer.content_at, answer.content_len)
+}
+
+pub fn metadata(stream: &[u8], answer: Answer) -> &[u8]
+    ensures { λ r. ⌜ now r ≡ metadataIn (now (stream .entry)) answer ⌝ }
+{
+    fields::slice::part(stream, answer.metadata_at, answer.metadata_len)
+}
+
+// ---- the writer
+
+// Checks 4 to 11 of a writer.
+fn sections_checks(
+    fixed: FixedFields,
+    type_text: &[u8],
+    further: &[u8],
+    content: &[u8],
+    metadata: &[u8],
+) -> u8
+    ensures { λ r. ⌜ r ≡ sectionsChecks (fixed .version) (now («type_text» .entry)) (sectionsGiven (fixed .id) (now (further .entry)) (now (content .entry)) (now (metadata .entry))) ⌝ }
+{
+    let fault = version_number(fixed.version);
+    if fault != 0 {
+        return fault;
+    }
+    if !body::is_fit(fixed.version, fixed.id, further.len(), metadata.len()) {
+        return 6;
+    }
+    contents_number(type_text, content, metadata)
+}
+
+// All checks of a writer but that of the room.
+fn write_checks(
+    fixed: FixedFields,
+    type_text: &[u8],
+    device_name: &[u8],
+    further: &[u8],
+    content: &[u8],
+    metadata: &[u8],
+) -> u8
+    ensures { λ r. ⌜ r ≡ writeChecks (given fixed (now («type_text» .entry)) (now («device_name» .entry)) (now (further .entry)) (now (content .entry)) (now (metadata .entry))) ⌝ }
+{
+    let fault = header::names_number(type_text, device_name);
+    if fault != 0 {
+        return fault;
+    }
+    if !body::within_limit(fixed.version, further.len(), content.len(), metadata.len()) {
+        return 3;
+    }
+    sections_checks(fixed, type_text, further, content, metadata)
+}
+
+// Writes a message that passed the checks into a buffer with room for its body of so many bytes.
+fn put_message(
+    fixed: FixedFields,
+    type_text: &[u8],
+    device_name: &[u8],
+    further: &[u8],
+    content: &[u8],
+    metadata: &[u8],
+    size: usize,
+    out: &mut [u8],
+)
+    requires { ⌜ (writeChecks (given fixed (now «type_text») (now «device_name») (now further) (now content) (now metadata)) ≡ 0) × (size ≡ length (bodyOf (given fixed (now «type_text») (now «device_name») (now further) (now content) (now metadata)))) × (58 + size ≤ length (now out)) ⌝ }
+    ensures { λ _. ⌜ now (out .exit) ≡ encodeParts (given fixed (now («type_text» .entry)) (now («device_name» .entry)) (now (further .entry)) (now (content .entry)) (now (metadata .entry))) ++ drop (58 + size) (now (out .entry)) ⌝ }
+{
+    body::put_body(
+        fixed.version,
+        fixed.id,
+        further,
+        content,
+        metadata,
+        &mut out[58..58 + size],
+    );
+    let crc = crc64::crc64(&out[58..58 + size]);
+    let header = header::HeaderFields {
+        version: fixed.version,
+        time_stamp: fixed.time_stamp,
+        body_size: size,
+        crc: crc,
+    };
+    header::write_header(header, type_text, device_name, out);
+}
+
+// Writes a message to the front of a buffer. The metadata is given as the bytes of its section.
+pub fn write(
+    fixed: FixedFields,
+    type_text: &[u8],
+    device_name: &[u8],
+    further: &[u8],
+    content: &[u8],
+    metadata: &[u8],
+    out: &mut [u8],
+) -> Written
+    ensures answer { λ r. ⌜ r ≡ messageWritten (given fixed (now («type_text» .entry)) (now («device_name» .entry)) (now (further .entry)) (now (content .entry)) (now (metadata .entry))) (length (now (out .entry))) ⌝ }
+    ensures bytes { λ _. ⌜ now (out .exit) ≡ messageOut (given fixed (now («type_text» .entry)) (now («device_name» .entry)) (now (further .entry)) (now (content .entry)) (now (metadata .entry))) (now (out .entry)) ⌝ }
+{
+    let fault = write_checks(fixed, type_text, device_name, further, content, metadata);
+    if fault != 0 {
+        return Written::Refused(fault);
+    }
+    let size = body::body_len(fixed.version, further.len(), content.len(), metadata.len());
+    if out.len() < 58 + size {
+        return Written::Refused(20);
+    }
+    put_message(
+        fixed,
+        type_text,
+        device_name,
+        further,
+        content,
+        metadata,
+        size,
+        out,
+    );
+    Written::Wrote(58 + size)
+}

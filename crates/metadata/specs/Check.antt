@@ -1,0 +1,49 @@
+-- Check 7 of document 01: metadata breaks its rule. A section lent by itself is judged at any length, and no bytes are no section.
+use Prim.Native.Nat.{ℕ, zero, suc, _+_, _*_}
+use mathlib.Core.Bool.{Bool, cond, _&&_}
+use mathlib.Core.List.{List}
+use lib.Dec.{eqb, ltb, leb}
+use lib.ListN.{length, take, drop}
+use Rattle.fields.specs.Numbers.{beAt}
+use Rattle.fields.specs.Text.{isText}
+
+-- INDEX_COUNT
+abbrev pub count : List ℕ → ℕ
+count s = beAt 2 0 s
+
+-- of the entry header at the front of h: KEY_SIZE, VALUE_ENCODING, VALUE_SIZE
+abbrev pub keySize : List ℕ → ℕ
+keySize h = beAt 2 0 h
+
+abbrev pub encodingOf : List ℕ → ℕ
+encodingOf h = beAt 2 2 h
+
+abbrev pub valueSize : List ℕ → ℕ
+valueSize h = beAt 4 4 h
+
+-- the bytes of its key and value
+abbrev pub entrySize : List ℕ → ℕ
+entrySize h = keySize h + valueSize h
+
+-- the entry whose header is at the front of h, and whose key and value are at the front of d: a key of at least one byte, key and value
+-- there, and the key a text
+unfoldable pub entryOk : List ℕ → List ℕ → Bool
+entryOk h d = ltb 0 (keySize h) && (leb (entrySize h) (length d) && isText (take (keySize h) d))
+
+-- k entries, by what is left of the headers and of the data; the section is filled exactly
+unfoldable pub entriesOk : ℕ → List ℕ → List ℕ → Bool
+entriesOk zero h d = eqb (length d) 0
+entriesOk (suc k) h d = entryOk h d && entriesOk k (drop 8 h) (drop (entrySize h) d)
+
+-- the entries' headers, and what follows them
+abbrev pub headersOf : List ℕ → List ℕ
+headersOf s = drop 2 s
+
+abbrev pub dataOf : List ℕ → List ℕ
+dataOf s = drop (2 + 8 * count s) s
+
+unfoldable pub sectionOk : List ℕ → Bool
+sectionOk s = leb 2 (length s) && (leb (2 + 8 * count s) (length s) && entriesOk (count s) (headersOf s) (dataOf s))
+
+unfoldable pub metadataFault : List ℕ → ℕ
+metadataFault s = cond (eqb (length s) 0) 0 (cond (sectionOk s) 0 7)

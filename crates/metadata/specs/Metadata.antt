@@ -1,0 +1,46 @@
+-- Metadata as document 01 describes it: no section, or a section of entries, and the bytes that it is written as. Nothing here reads bytes.
+use Prim.Native.Nat.{ℕ, _^_, _<_}
+use mathlib.Core.List.{List, [], _∷_, _++_}
+use lib.ListN.{length}
+use Rattle.fields.specs.Bytes.{Bytes}
+use Rattle.fields.specs.Lists.{Each, flat}
+use Rattle.fields.specs.Numbers.{beBytes}
+use Rattle.fields.specs.Text.{Text}
+use Rattle.fields.specs.Layout.{join}
+
+-- a key, VALUE_ENCODING and a value
+pub record Entry : Type 0 where
+  pub key : List ℕ
+  pub encoding : ℕ
+  pub value : List ℕ
+
+-- a section without entries and no section are different
+pub data Metadata : Type 0 where
+  absent : Metadata
+  section : List Entry → Metadata
+
+-- KEY_SIZE 2, VALUE_ENCODING 2, VALUE_SIZE 4
+unfoldable pub entryHeader : Entry → List ℕ
+entryHeader e = join (beBytes 2 (length (e .key)) ∷ beBytes 2 (e .encoding) ∷ beBytes 4 (length (e .value)) ∷ [])
+
+-- key and value in turn
+unfoldable pub entryData : Entry → List ℕ
+entryData e = e .key ++ e .value
+
+-- INDEX_COUNT 2, the headers, the keys and values; no section is no bytes
+unfoldable pub encodeMetadata : Metadata → List ℕ
+encodeMetadata absent = []
+encodeMetadata (section es) = beBytes 2 (length es) ++ (flat entryHeader es ++ flat entryData es)
+
+-- a key is a text of at least one byte; the sizes and the encoding fit their fields
+pub record WellEntry (e : Entry) : Type 0 where
+  pub key-text : Text (e .key)
+  pub key-some : 0 < length (e .key)
+  pub key-fits : length (e .key) < 256 ^ 2
+  pub encoding-fits : e .encoding < 256 ^ 2
+  pub value-bytes : Bytes (e .value)
+  pub value-fits : length (e .value) < 256 ^ 4
+
+unfoldable pub WellMetadata : Metadata → Type 0
+WellMetadata absent = Unit {0}
+WellMetadata (section es) = (length es < 256 ^ 2) × Each WellEntry es
