@@ -43,3 +43,5 @@ pub record Headers : Type 0 where
       → writtenNumber (headerWritten h room) ≡ orElse (headerFault (encodeHeader h)) (roomFault 58 room)
   pub answered-back : (s : List ℕ) (room : ℕ) → Bytes s → headerFault s ≡ 0 → 58 ≤ room → headerWritten (headerOf s) room ≡ Wrote 58
   pub written-back : (s out : List ℕ) → Bytes s → headerFault s ≡ 0 → 58 ≤ length out → headerOut (headerOf s) out ≡ take 58 s ++ drop 58 out
+  -- a refusal leaves the buffer as it was
+  pub untouched : (h : Header) (out : List ℕ) → (writtenNumber (headerWritten h (length out)) ≡ 0 → ⊥) → headerOut h out ≡ out

@@ -1,13 +1,13 @@
 -- The borders P4 to P6. Assumes nothing.
 use Prim.Native.Nat.{ℕ, _+_, _^_, _<_, _≤_}
-use mathlib.Core.Path.{_≡_, refl, sym, ap, _∙_}
+use mathlib.Core.Path.{_≡_, refl, ap, _∙_}
 use mathlib.Core.Logic.{inl, inr}
-use mathlib.Core.List.{List, [], _∷_, _++_, append-assoc, append-nil}
+use mathlib.Core.List.{List, [], _++_, append-assoc, append-nil}
 use native.Mathlib.Omega.{arith}
 use lib.ListN.{length}
 use Rattle.fields.specs.Bytes.{Bytes}
 use Rattle.fields.specs.Numbers.{beBytes}
-use Rattle.fields.specs.Text.{Text, textBytes}
+use Rattle.fields.specs.Text.{Text}
 use Rattle.fields.proofs.Laws.Bytes.{bytes-nil}
 use Rattle.crc64.specs.Crc.{crcOf}
 use Rattle.crc64.proofs.Laws.{crc-lt}
@@ -15,12 +15,11 @@ use Rattle.header.specs.Header.{Header, encodeHeader}
 use Rattle.metadata.specs.Metadata.{absent, encodeMetadata, WellMetadata}
 use Rattle.content.specs.Tree.{other, Opaque}
 use Rattle.content.specs.Tree as tree
-use Rattle.message.specs.declared.Answer.{Answer}
 use Rattle.message.specs.Body.{encodeBody}
-use Rattle.message.specs.Message.{Message, Parts, partsOf, bodyOf, headerFor, encodeParts, encode, WellFormed}
+use Rattle.message.specs.Message.{Message, Parts, partsOf, bodyOf, encodeParts, encode, WellFormed}
 use Rattle.message.specs.Check.{refused, readOf}
 use Rattle.message.specs.Demand2.{Begins}
-use Rattle.message.specs.Numbers.{Whole, Sound}
+use Rattle.message.specs.Numbers.{Whole}
 use Rattle.message.specs.Examples.{ofVersion2, getStatusText, body12, Accepted70, Examples}
 use Rattle.message.proofs.Laws.Messages.{demand-2}
 use Rattle.message.proofs.Laws.Numbers.{refusals}

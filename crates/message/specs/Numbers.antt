@@ -2,7 +2,7 @@
 use Prim.Native.Nat.{ℕ, _+_, _^_, _<_, _≤_}
 use mathlib.Core.Path.{_≡_}
 use mathlib.Core.Logic.{_⊎_}
-use mathlib.Core.List.{List, [], _++_}
+use mathlib.Core.List.{List, _++_}
 use lib.ListN.{length}
 use Rattle.fields.specs.Bytes.{Bytes}
 use Rattle.fields.specs.Numbers.{beAt}
@@ -13,7 +13,7 @@ use Rattle.header.specs.Header.{Header, WellTexts, WellHeader, encodeHeader, li
 use Rattle.header.specs.Headers.{BeginsWith, TextsHeld}
 use Rattle.metadata.specs.Metadatas.{IsMetadata}
 use Rattle.content.specs.Check.{contentFault, deepest}
-use Rattle.message.specs.Body.{Sections, Plain, Extended, WellSections, encodeBody}
+use Rattle.message.specs.Body.{Sections, Plain, WellSections, encodeBody}
 use Rattle.message.specs.Message.{Parts, bodyOf, encodeParts}
 use Rattle.message.specs.Check.{refused, readOf}
 use Rattle.message.specs.Bodies.{IsVersion, BreaksExtended}

@@ -9,7 +9,7 @@ use Rattle.fields.specs.Checks.{orElse}
 use Rattle.fields.specs.Answer.{writtenOf, roomFault, outAfter}
 use Rattle.header.specs.Check.{namesFault, limitFault}
 use Rattle.message.specs.declared.FixedFields.{FixedFields}
-use Rattle.message.specs.Body.{Sections, encodeBody}
+use Rattle.message.specs.Body.{Sections}
 use Rattle.message.specs.Message.{Parts, bodyOf, encodeParts}
 use Rattle.message.specs.Check.{versionFault, sectionsFault}
 

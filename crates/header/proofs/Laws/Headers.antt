@@ -15,7 +15,7 @@ use Rattle.header.specs.Check.{headerOf, textsFault, limitFault, headerF
 use Rattle.header.specs.Headers.{BeginsWith, TextsHeld, Headers}
 use Rattle.header.proofs.Laws.Faults.{texts-pass, texts-passed, names-pass, names-passed, names-refused, limit-pass, limit-refused, fault-short, fault-texts, fault-limit, header-read-passed, header-read-refused}
 use Rattle.header.proofs.Laws.Layout.{length-header, header-read, header-number, header-back, header-fits}
-use Rattle.header.proofs.Laws.Writer.{write-names, write-named, write-room, answer-wrote, out-header}
+use Rattle.header.proofs.Laws.Writer.{write-names, write-named, write-room, answer-wrote, out-header, out-kept}
 
 -- ---- the reader
 
@@ -98,4 +98,5 @@ headers =
       answered-back = λ s room b h k. answer-wrote (headerOf s) room (write-read s room b h k);
       written-back = λ s out b h k.
           out-header (headerOf s) out (write-read s (length out) b h k) ∙ ap (λ (l : List ℕ). l ++ drop 58 out) (header-back s b h);
+      untouched = λ h out k. out-kept h out (λ e. k (written-fault h (length out) ∙ e));
     }

@@ -44,7 +44,7 @@ answer-refused : (h : Header) (room : ℕ) → (writeFault h room ≡ 0 → ⊥)
 unfolding headerWritten
 answer-refused h room e = written-refused (writeFault h room) 58 e
 
-out-kept : (h : Header) (out : List ℕ) → (writeFault h (length out) ≡ 0 → ⊥) → headerOut h out ≡ out
+pub out-kept : (h : Header) (out : List ℕ) → (writeFault h (length out) ≡ 0 → ⊥) → headerOut h out ≡ out
 unfolding headerOut
 out-kept h out e = out-refused (writeFault h (length out)) (encodeHeader h) out e
 

@@ -1,37 +1,32 @@
 -- Messages: the front of a stream is accepted exactly when some message is written as it. Assumes nothing.
-use Prim.Native.Nat.{ℕ, zero, suc, _+_, _^_, _<_, _≤_}
+use Prim.Native.Nat.{ℕ, _+_, _^_, _<_, _≤_}
 use mathlib.Core.Path.{_≡_, refl, sym, ap, ap₂, _∙_, subst}
-use mathlib.Core.Logic.{_⊎_, inl, inr, ⊎-elim}
-use mathlib.Core.List.{List, [], _∷_, _++_}
+use mathlib.Core.Logic.{_⊎_, ⊎-elim}
+use mathlib.Core.List.{List, _++_}
 use native.Mathlib.Omega.{arith}
-use lib.ListN.{length, take, drop, take-append-drop, length-append}
+use lib.ListN.{length, take, drop, take-append-drop}
 use lib.Seq.{take-at}
-use Rattle.fields.specs.declared.Written.{Written}
 use Rattle.fields.specs.declared.Written.the-variants.{Wrote}
-use Rattle.fields.specs.Bytes.{Bytes, part}
+use Rattle.fields.specs.Bytes.{Bytes}
 use Rattle.fields.specs.Text.{Text}
-use Rattle.fields.specs.Checks.{orElse}
-use Rattle.fields.specs.Answer.{roomFault}
 use Rattle.fields.proofs.Laws.Bytes.{bytes-part, length-part}
 use Rattle.fields.proofs.Laws.Checks.{else-zero}
 use Rattle.fields.proofs.Laws.Answer.{written-wrote, out-wrote, room-enough}
-use Rattle.crc64.specs.Crc.{crcOf}
 use Rattle.crc64.proofs.Laws.{crc-lt}
 use Rattle.header.specs.Header.{Header, HeaderFits, WellHeader, limit}
 use Rattle.header.specs.Check.{headerOf, namesFault, limitFault}
-use Rattle.metadata.specs.Metadata.{Metadata, WellMetadata, encodeMetadata}
+use Rattle.metadata.specs.Metadata.{encodeMetadata}
 use Rattle.metadata.specs.Check.{metadataFault}
 use Rattle.metadata.specs.Metadatas.{IsMetadata}
-use Rattle.content.specs.Tree.{Content, typeText}
-use Rattle.content.specs.Tree as tree
-use Rattle.content.specs.Check.{contentFault, deepest}
+use Rattle.content.specs.Tree.{typeText}
+use Rattle.content.specs.Check.{deepest}
 use Rattle.content.specs.Contents.{IsContent}
 use Rattle.content.proofs.Laws.Contents.{contents}
 use Rattle.message.specs.declared.Answer.{Answer}
 use Rattle.message.specs.declared.body.Places.{Places}
 use Rattle.message.specs.Body.{Sections, WellSections, encodeBody}
 use Rattle.message.specs.Message.{Message, Parts, partsOf, bodyOf, headerFor, encodeParts, encode, WellFormed}
-use Rattle.message.specs.Check.{versionFault, sectionsFault, sectionsOf, bodyAt, bodyChecks, numberOf, readOf, handed, placesOf}
+use Rattle.message.specs.Check.{versionFault, sectionsFault, sectionsOf, bodyAt, numberOf, readOf, handed, placesOf}
 use Rattle.message.specs.Writer.{fitFault, sectionsChecks, writeChecks, writeFault, messageWritten, messageOut}
 use Rattle.message.specs.Demand2.{Begins, Demand2}
 use Rattle.header.proofs.Laws.Layout.{header-fits}

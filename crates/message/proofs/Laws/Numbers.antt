@@ -1,15 +1,13 @@
 -- Which number the reader and the writer give, in document 01's order. Assumes nothing.
-use Prim.Native.Nat.{ℕ, zero, suc, _+_, _^_, _<_, _≤_}
+use Prim.Native.Nat.{ℕ, zero, suc, _+_, _<_, _≤_}
 use mathlib.Core.Path.{_≡_, refl, sym, ap, ap₂, _∙_, subst}
 use mathlib.Core.Logic.{_⊎_, inl, inr, ⊎-elim}
-use mathlib.Core.Bool.{Bool, true, false, cond, true≢false}
-use mathlib.Core.List.{List, [], _∷_, _++_, append-nil}
+use mathlib.Core.Bool.{Bool, true, false, true≢false}
+use mathlib.Core.List.{List, [], append-nil}
 use native.Mathlib.Omega.{arith}
 use native.Mathlib.Decide.{decLe}
-use lib.Dec.{eqb}
 use lib.ListN.{length}
 use Rattle.fields.specs.Bytes.{Bytes}
-use Rattle.fields.specs.Numbers.{beAt}
 use Rattle.fields.specs.Checks.{orElse}
 use Rattle.fields.specs.Answer.{writtenNumber, roomFault}
 use Rattle.fields.proofs.Laws.Bytes.{bytes-part}
@@ -18,22 +16,22 @@ use Rattle.fields.proofs.Laws.Answer.{written-number, out-refused}
 use Rattle.crc64.specs.Crc.{crcOf}
 use Rattle.crc64.proofs.Laws.{crc-lt}
 use Rattle.header.specs.declared.HeaderRead.{HeaderRead}
-use Rattle.header.specs.Header.{Header, WellTexts, HeaderFits, WellHeader, encodeHeader, limit}
-use Rattle.header.specs.Check.{headerOf, headerFault, headerRead, namesFault, limitFault}
+use Rattle.header.specs.Header.{Header, WellTexts, HeaderFits, limit}
+use Rattle.header.specs.Check.{headerOf, headerFault, headerRead, limitFault}
 use Rattle.header.specs.Check as header
 use Rattle.header.specs.Headers.{BeginsWith}
 use Rattle.metadata.specs.Check.{metadataFault}
 use Rattle.metadata.specs.Metadatas.{IsMetadata}
 use Rattle.content.specs.Check.{contentFault, deepest}
 use Rattle.message.specs.declared.body.Places.{Places}
-use Rattle.message.specs.Body.{Sections, Plain, Extended, WellSections, encodeBody}
+use Rattle.message.specs.Body.{Sections, Plain, WellSections}
 use Rattle.message.specs.Message.{Parts, bodyOf, headerFor, encodeParts}
-use Rattle.message.specs.Check.{refused, wholeFault, versionFault, crcFault, bodyFault, sectionsFault, placesOf, sectionsOf, bodyChecks, bodyAt, frontFault, numberOf, stepOf, readOf}
-use Rattle.message.specs.Writer.{fitOk, fitFault, sectionsChecks, writeChecks, writeFault, messageWritten, messageOut}
+use Rattle.message.specs.Check.{refused, versionFault, bodyFault, sectionsFault, placesOf, sectionsOf, bodyChecks, bodyAt, frontFault, numberOf, readOf}
+use Rattle.message.specs.Writer.{fitOk, sectionsChecks, writeChecks, writeFault, messageWritten, messageOut}
 use Rattle.message.specs.Bodies.{IsVersion, BreaksExtended}
 use Rattle.message.specs.Numbers.{Whole, Sound, LaidOut, Refusals, Given, Unfit, WriterNumbers}
 use Rattle.header.proofs.Laws.Layout.{header-read, header-number}
-use Rattle.header.proofs.Laws.Faults.{header-read-passed, header-read-refused, names-pass, names-broken, limit-pass, limit-refused}
+use Rattle.header.proofs.Laws.Faults.{names-pass, names-broken, limit-pass}
 use Rattle.header.proofs.Laws.Headers.{headers}
 use Rattle.metadata.proofs.Laws.Metadatas.{metadatas}
 use Rattle.message.proofs.Laws.Body.{body-well, body-read, extended-refused}

@@ -12,9 +12,7 @@ use Rattle.header.specs.Header.{limit}
 use Rattle.header.specs.Check as header
 use Rattle.header.specs.Check.{headerOf, headerFault, headerRead}
 use Rattle.header.proofs.Laws.Faults.{fault-passed, header-read-passed, header-read-refused}
-use Rattle.message.specs.declared.body.Places.{Places}
-use Rattle.message.specs.declared.Answer.{Answer}
-use Rattle.message.specs.Check.{wholeFault, versionFault, crcFault, bodyFault, bodyChecks, bodyAt, frontFault, numberOf, stepOf, placesOf, refused, accepted, readOf}
+use Rattle.message.specs.Check.{versionFault, crcFault, bodyFault, bodyChecks, bodyAt, frontFault, numberOf, placesOf, refused, accepted, readOf}
 use Rattle.message.proofs.Laws.Stream.{whole-pass, whole-refused, read-accepted, read-refused, step-whole, step-none}
 
 -- a refusal before a step is known

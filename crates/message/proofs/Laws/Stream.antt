@@ -1,33 +1,31 @@
 -- A stream that begins with a header and a body: what the reader finds there, and what passes its checks. Assumes nothing.
-use Prim.Native.Nat.{ℕ, zero, suc, _+_, _-_, _^_, _<_, _≤_}
+use Prim.Native.Nat.{ℕ, zero, suc, _+_, _-_, _<_, _≤_}
 use mathlib.Core.Path.{_≡_, refl, sym, ap, ap₂, _∙_, subst}
 use mathlib.Core.Logic.{_⊎_, inl, inr, ⊎-elim}
 use mathlib.Core.Bool.{Bool, true, false, cond, _||_, or-true}
-use mathlib.Core.List.{List, [], _∷_, _++_, append-assoc}
+use mathlib.Core.List.{List, _++_}
 use native.Mathlib.Omega.{arith}
 use lib.Dec.{eqb, leb}
-use lib.ListN.{length, take, drop, length-append}
+use lib.ListN.{length, take, length-append}
 use lib.Seq.{take-add, take-at, drop-at}
 use borrow.Author.Tests.{eqb-true, eqb-false, leb-true, le-leb, lt-leb, eq-eqb, ne-eqb}
 use Rattle.fields.specs.Bytes.{Bytes, part}
 use Rattle.fields.specs.Checks.{orElse}
 use Rattle.fields.proofs.Laws.Bytes.{length-part, bytes-part, part-part}
-use Rattle.fields.proofs.Laws.Checks.{zero-else, else-zero, else-first, else-second, cond-pass, or-split}
+use Rattle.fields.proofs.Laws.Checks.{zero-else, else-first, else-second, cond-pass, or-split}
 use Rattle.crc64.specs.Crc.{crcOf}
-use Rattle.header.specs.Header.{Header, HeaderFits, WellHeader, encodeHeader}
+use Rattle.header.specs.Header.{Header, HeaderFits, encodeHeader}
 use Rattle.header.specs.Check as header
 use Rattle.header.specs.Check.{headerOf, headerFault, limitFault}
 use Rattle.metadata.specs.Check.{metadataFault}
 use Rattle.content.specs.Check.{contentFault, deepest}
 use Rattle.message.specs.declared.Answer.{Answer}
 use Rattle.message.specs.declared.body.Places.{Places}
-use Rattle.message.specs.Body.{Sections, WellSections, encodeBody}
 use Rattle.message.specs.Message.{Parts, bodyOf, headerFor, encodeParts}
-use Rattle.message.specs.Check.{extendedPlaces, plainPlaces, placesOf, sectionsAt, sectionsOf, bodyFault, wholeFault, versionFault, crcFault, sectionsFault, bodyChecks, bodyAt, frontFault, numberOf, stepOf, refused, accepted, readOf, handed}
+use Rattle.message.specs.Check.{placesOf, sectionsOf, bodyFault, wholeFault, versionFault, crcFault, sectionsFault, bodyChecks, bodyAt, frontFault, numberOf, stepOf, refused, accepted, readOf, handed}
 use Rattle.message.specs.Bodies.{IsVersion}
-use Rattle.header.proofs.Laws.Layout.{length-header, header-read, header-number, header-back, header-fits, type-part, name-part}
-use Rattle.header.proofs.Laws.Faults.{header-long, limit-pass}
-use Rattle.message.proofs.Laws.Body.{Passed, passed-2, places-1, places-2, body-accepted, body-back}
+use Rattle.header.proofs.Laws.Layout.{length-header, header-read, header-number, header-back, type-part, name-part}
+use Rattle.message.proofs.Laws.Body.{Passed, passed-2, places-1, places-2, body-back}
 
 -- ---- single checks
 
@@ -156,6 +154,14 @@ number-accepted s h =
       content = e .1;
     }
 
+pub front-passed : (s : List ℕ) → numberOf s ≡ 0 → frontFault s ≡ 0
+unfolding numberOf
+front-passed s h = zero-else (frontFault s) _ h .0
+
+pub front-whole : (s : List ℕ) → frontFault s ≡ 0 → 58 + headerOf s .bodySize ≤ length s
+unfolding frontFault
+front-whole s h = whole-passed s (zero-else (headerFault s) _ h .1)
+
 -- ---- the answer
 
 pub read-accepted : (s : List ℕ) → numberOf s ≡ 0 → readOf s ≡ accepted (header.handed (headerOf s)) (placesOf (headerOf s .version) (bodyAt s))
@@ -185,6 +191,21 @@ step-whole s h = ap (λ (t : Bool). cond t (58 + headerOf s .bodySize) 0) (eq-eq
 pub step-none : (s : List ℕ) → (frontFault s ≡ 0 → ⊥) → stepOf s ≡ 0
 unfolding stepOf
 step-none s h = ap (λ (t : Bool). cond t (58 + headerOf s .bodySize) 0) (ne-eqb (frontFault s) 0 h)
+
+pub read-step : (s : List ℕ) → readOf s .step ≡ stepOf s
+read-step s = go (numberOf s) refl
+  where
+    go : (n : ℕ) → numberOf s ≡ n → readOf s .step ≡ stepOf s
+    go zero e = ap (λ (a : Answer). a .step) (read-accepted s e) ∙ sym (step-whole s (front-passed s e))
+    go (suc n) e = ap (λ (a : Answer). a .step) (read-refused s (λ z. let k : _≡_ {A = ℕ} (suc n) 0 = sym e ∙ z in omega arith))
+
+-- the step never leads past the stream's end
+pub step-within : (s : List ℕ) → readOf s .step ≤ length s
+step-within s = go (frontFault s) refl
+  where
+    go : (n : ℕ) → frontFault s ≡ n → readOf s .step ≤ length s
+    go zero e = omega (arith, read-step s, step-whole s e, front-whole s e)
+    go (suc n) e = omega (arith, read-step s, step-none s (λ z. let k : _≡_ {A = ℕ} (suc n) 0 = sym e ∙ z in omega arith))
 
 -- ---- what the answer hands out
 

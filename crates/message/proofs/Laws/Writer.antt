@@ -1,16 +1,16 @@
 -- The writer's checks: what passes them, and how they stand to the reader's. Assumes nothing.
-use Prim.Native.Nat.{ℕ, zero, suc, _+_, _^_, _<_, _≤_}
-use mathlib.Core.Path.{_≡_, refl, sym, ap, ap₂, _∙_, subst}
+use Prim.Native.Nat.{ℕ, _+_, _<_, _≤_}
+use mathlib.Core.Path.{_≡_, refl, sym, ap, ap₂, _∙_}
 use mathlib.Core.Logic.{_⊎_, inl, inr, ⊎-elim}
 use mathlib.Core.Bool.{Bool, true, false, cond, _&&_}
-use mathlib.Core.List.{List, [], _∷_, _++_, append-assoc, append-nil}
+use mathlib.Core.List.{List, [], _++_, append-assoc, append-nil}
 use native.Mathlib.Omega.{arith}
 use lib.Dec.{eqb, leb}
 use lib.ListN.{length, take, drop, length-append, drop-of-length-le}
 use lib.Seq.{sets, take-all, take-at, drop-at, drop-drop, length-take-le}
 use borrow.Rule.Slice.PartMut.{putMid}
 use borrow.Author.Tests.{eqb-true, eqb-false, leb-true, leb-false, le-leb, lt-leb, eq-eqb, ne-eqb}
-use Rattle.fields.specs.Bytes.{Bytes, part}
+use Rattle.fields.specs.Bytes.{part}
 use Rattle.fields.specs.Checks.{orElse}
 use Rattle.fields.proofs.Laws.Bytes.{length-part}
 use Rattle.fields.proofs.Laws.Stores.{sets-front}
@@ -21,9 +21,9 @@ use Rattle.crc64.specs.Crc.{crcOf}
 use Rattle.header.specs.Header.{Header, HeaderFits, encodeHeader, limit}
 use Rattle.header.specs.Check.{namesFault, limitFault, headerOut}
 use Rattle.header.specs.Check as header
-use Rattle.message.specs.Body.{Sections, Plain, Extended, WellSections, encodeBody}
+use Rattle.message.specs.Body.{Sections, Plain, WellSections, encodeBody}
 use Rattle.message.specs.Message.{Parts, bodyOf, headerFor, encodeParts}
-use Rattle.message.specs.Check.{versionFault, crcFault, bodyFault, sectionsFault, sectionsOf, bodyChecks, numberOf}
+use Rattle.message.specs.Check.{versionFault, sectionsFault, bodyChecks, numberOf}
 use Rattle.message.specs.Writer.{bodyLength, fits, fitOk, fitFault, sectionsChecks, writeChecks, writeFault, messageWritten, messageOut}
 use Rattle.message.specs.Bodies.{IsVersion}
 use Rattle.header.proofs.Laws.Layout.{length-header}

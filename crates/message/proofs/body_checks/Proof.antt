@@ -1,47 +1,36 @@
-use mathlib.Core.List.{List}
+-- `message::body_checks` meets its contract: the checks in turn; the sections are those at the places found.
 use Prim.Native.Nat.{ℕ}
+use mathlib.Core.Path.{ap₂, ap, sym, _∙_}
+use mathlib.Core.List.{List}
+use borrow.Author.Needs.{needs}
 use Rattle.fields.specs.Bytes.{part}
 use Rattle.fields.specs.Checks.{orElse}
 use Rattle.metadata.specs.Check.{metadataFault}
 use Rattle.content.specs.Check.{contentFault, deepest}
-use mathlib.Core.Path.{ap₂}
-use Rattle.fields.proofs.Laws.Checks.{else-first, else-second}
 use Rattle.message.specs.declared.body.Places.{Places}
 use Rattle.message.specs.Check.{bodyChecks, sectionsFault}
-use Rattle.message.proofs.Laws.Stream.{crc-pass, crc-refused, checks-version, checks-crc, checks-body, checks-rest}
-use mathlib.Core.Path.{_≡_, refl, ap, sym, _∙_}
-use native.Mathlib.Omega.{arith}
-use borrow.Author.Tests.{le-ltb, lt-ltb, le-leb, lt-leb, eq-eqb, ne-eqb}
-use borrow.Author.Needs.{needs}
+use Rattle.message.proofs.Laws.Stream.{checks-version, checks-crc, checks-body, checks-rest}
 use Rattle.message.proofs.body_checks.Statement.{statement}
 use Rattle.message.proofs.body_checks.Tie as tie
-use Rattle.message.proofs.body_checks.Reads as reads
-use Rattle.message.proofs.body_checks.Lts as lts
-use Rattle.crc64.proofs.crc64.Reads as crc64-reads
-use Rattle.fields.proofs.slice.part.Reads as part-reads
-use Rattle.message.proofs.body.body_number.Reads as body-number-reads
-use Rattle.message.proofs.body.sections.Reads as sections-reads
-use Rattle.message.proofs.contents_number.Reads as contents-number-reads
-use Rattle.message.proofs.version_number.Reads as version-number-reads
 
 version-number-requires : tie.Need-version-number-requires
 version-number-requires c κs = search needs
 
 returns : tie.Need-returns
 unfolding bodyChecks
-returns c = checks-version (c .before .before .before .before .args .version) (c .before .before .before .before .args .crc) (c .before .before .before .before .args .type-text .now) (c .before .before .before .before .args .body .now) (c .before .version-number .result) (c .before .version-number .ensures) (c .if1 .taken)
+returns c = checks-version _ _ _ _ _ (c .before .version-number .ensures) (c .if1 .taken)
 
 crc64-requires : tie.Need-crc64-requires
 crc64-requires c κs = search needs
 
 returns-2 : tie.Need-returns-2
-returns-2 c = checks-crc (c .before .before .before .before .before .before .args .version) (c .before .before .before .before .before .before .args .crc) (c .before .before .before .before .before .before .args .type-text .now) (c .before .before .before .before .before .before .args .body .now) (sym (c .before .before .before .version-number .ensures) ∙ c .before .before .if1 .left) (λ z. c .if2 .taken (c .before .crc64 .ensures ∙ z))
+returns-2 c = checks-crc _ _ _ _ (sym (c .before .before .before .version-number .ensures) ∙ c .before .before .if1 .left) (λ z. c .if2 .taken (c .before .crc64 .ensures ∙ z))
 
 body-number-requires : tie.Need-body-number-requires
 body-number-requires c κs = search needs
 
 returns-3 : tie.Need-returns-3
-returns-3 c = checks-body (c .before .before .before .before .before .before .before .before .args .version) (c .before .before .before .before .before .before .before .before .args .crc) (c .before .before .before .before .before .before .before .before .args .type-text .now) (c .before .before .before .before .before .before .before .before .args .body .now) (c .before .body-number .result) (sym (c .before .before .before .before .before .version-number .ensures) ∙ c .before .before .before .before .if1 .left) (sym (c .before .before .before .crc64 .ensures) ∙ c .before .before .if2 .left) (c .before .body-number .ensures) (c .if3 .taken)
+returns-3 c = checks-body _ _ _ _ _ (sym (c .before .before .before .before .before .version-number .ensures) ∙ c .before .before .before .before .if1 .left) (sym (c .before .before .before .crc64 .ensures) ∙ c .before .before .if2 .left) (c .before .body-number .ensures) (c .if3 .taken)
 
 sections-requires : tie.Need-sections-requires
 sections-requires c κs = search needs

@@ -1,20 +1,14 @@
+-- `message::put_message` meets its contract: the body fills the part lent for it, the CRC is of that, and the header comes before it.
 use Prim.Native.Nat.{_+_, _-_}
+use mathlib.Core.Path.{_∙_}
 use native.Mathlib.Nat.{add-sub-cancel-left}
-use mathlib.Core.List.{List}
+use native.Mathlib.Omega.{arith}
 use lib.ListN.{length}
+use borrow.Author.Needs.{needs}
 use Rattle.message.specs.Writer.{given}
 use Rattle.message.proofs.Laws.Writer.{writable, length-body, content-long, message-stored}
-use mathlib.Core.Path.{_≡_, refl, ap, sym, _∙_}
-use native.Mathlib.Omega.{arith}
-use borrow.Author.Tests.{le-ltb, lt-ltb, le-leb, lt-leb, eq-eqb, ne-eqb}
-use borrow.Author.Needs.{needs}
 use Rattle.message.proofs.put_message.Statement.{statement}
 use Rattle.message.proofs.put_message.Tie as tie
-use Rattle.message.proofs.put_message.Reads as reads
-use Rattle.message.proofs.put_message.Lts as lts
-use Rattle.crc64.proofs.crc64.Reads as crc64-reads
-use Rattle.header.proofs.write_header.Reads as write-header-reads
-use Rattle.message.proofs.body.put_body.Reads as put-body-reads
 
 add-put-body : tie.Need-add-put-body
 add-put-body c = search needs

@@ -1,18 +1,10 @@
-use Rattle.message.proofs.Laws.Read.{says-header, size-limit, says-short, says-body, says-accepted, laid-out, body-short}
-use mathlib.Core.Path.{_≡_, refl, ap, sym, _∙_}
+-- `message::read` meets its contract: the reader's steps in turn.
+use mathlib.Core.Path.{_∙_}
 use native.Mathlib.Omega.{arith}
-use borrow.Author.Tests.{le-ltb, lt-ltb, le-leb, lt-leb, eq-eqb, ne-eqb}
 use borrow.Author.Needs.{needs}
+use Rattle.message.proofs.Laws.Read.{says-header, size-limit, says-short, says-body, says-accepted, laid-out, body-short}
 use Rattle.message.proofs.read.Statement.{statement}
 use Rattle.message.proofs.read.Tie as tie
-use Rattle.message.proofs.read.Reads as reads
-use Rattle.message.proofs.read.Lts as lts
-use Rattle.fields.proofs.slice.part.Reads as part-reads
-use Rattle.header.proofs.read_header.Reads as read-header-reads
-use Rattle.header.proofs.type_text.Reads as type-text-reads
-use Rattle.message.proofs.accept.Reads as accept-reads
-use Rattle.message.proofs.body_checks.Reads as body-checks-reads
-use Rattle.message.proofs.refusal.Reads as refusal-reads
 
 read-header-requires : tie.Need-read-header-requires
 read-header-requires c κs = search needs
@@ -21,16 +13,16 @@ refusal-requires : tie.Need-refusal-requires
 refusal-requires c κs = search needs
 
 returns : tie.Need-returns
-returns c = c .refusal .ensures ∙ says-header (c .before .before .before .before .args .stream .now) (c .before .before .read-header .result) (c .before .before .read-header .ensures) (c .before .if1 .taken)
+returns c = c .refusal .ensures ∙ says-header _ _ (c .before .before .read-header .ensures) (c .before .if1 .taken)
 
 add-if2 : tie.Need-add-if2
-add-if2 c = omega (arith, size-limit (c .before .before .before .args .stream .now) (c .before .read-header .result) (c .before .read-header .ensures) (c .if1 .left))
+add-if2 c = omega (arith, size-limit _ _ (c .before .read-header .ensures) (c .if1 .left))
 
 refusal-requires-2 : tie.Need-refusal-requires-2
 refusal-requires-2 c κs = search needs
 
 returns-2 : tie.Need-returns-2
-returns-2 c = c .refusal2 .ensures ∙ says-short (c .before .before .before .before .before .args .stream .now) (c .before .before .before .read-header .result) (c .before .before .before .read-header .ensures) (c .before .before .if1 .left) (omega (arith, c .before .if2 .taken))
+returns-2 c = c .refusal2 .ensures ∙ says-short _ _ (c .before .before .before .read-header .ensures) (c .before .before .if1 .left) (omega (arith, c .before .if2 .taken))
 
 part-requires : tie.Need-part-requires
 part-requires c κs = search needs
@@ -48,17 +40,17 @@ refusal-requires-3 : tie.Need-refusal-requires-3
 refusal-requires-3 c κs = search needs
 
 returns-3 : tie.Need-returns-3
-returns-3 c = c .refusal3 .ensures ∙ says-body (c .before .before .before .before .before .before .before .before .before .args .stream .now) (c .before .before .before .before .before .before .before .read-header .result) (c .before .before .before .before .before .before .before .read-header .ensures) (c .before .before .before .before .before .before .if1 .left) (omega (arith, c .before .before .before .before .before .if2 .left)) (c .before .before .before .type-text .result .now) (c .before .before .before .before .part .result .now) (c .before .before .before .type-text .ensures) (c .before .before .before .before .part .ensures) (c .before .before .body-checks .result) (c .before .before .body-checks .ensures) (c .before .if3 .taken)
+returns-3 c = c .refusal3 .ensures ∙ says-body _ _ (c .before .before .before .before .before .before .before .read-header .ensures) (c .before .before .before .before .before .before .if1 .left) (omega (arith, c .before .before .before .before .before .if2 .left)) _ _ (c .before .before .before .type-text .ensures) (c .before .before .before .before .part .ensures) _ (c .before .before .body-checks .ensures) (c .before .if3 .taken)
 
 accept-requires : tie.Need-accept-requires
 accept-requires c κs = (
-  laid-out (c .before .before .before .before .before .before .before .before .args .stream .now) (c .before .before .before .before .before .before .read-header .result) (c .before .before .before .before .before .before .read-header .ensures) (c .before .before .before .before .before .if1 .left) (omega (arith, c .before .before .before .before .if2 .left)) (c .before .before .type-text .result .now) (c .before .before .before .part .result .now) (c .before .before .type-text .ensures) (c .before .before .before .part .ensures) (c .before .body-checks .result) (c .before .body-checks .ensures) (c .if3 .left),
-  size-limit (c .before .before .before .before .before .before .before .before .args .stream .now) (c .before .before .before .before .before .before .read-header .result) (c .before .before .before .before .before .before .read-header .ensures) (c .before .before .before .before .before .if1 .left),
-  body-short (c .before .before .before .before .before .before .before .before .args .stream .now) (c .before .before .before .before .before .before .read-header .result) (c .before .before .before .before .before .before .read-header .ensures) (c .before .before .before .before .before .if1 .left) (omega (arith, c .before .before .before .before .if2 .left)) (c .before .before .type-text .result .now) (c .before .before .before .part .result .now) (c .before .before .type-text .ensures) (c .before .before .before .part .ensures) (c .before .body-checks .result) (c .before .body-checks .ensures),
+  laid-out _ _ (c .before .before .before .before .before .before .read-header .ensures) (c .before .before .before .before .before .if1 .left) (omega (arith, c .before .before .before .before .if2 .left)) _ _ (c .before .before .type-text .ensures) (c .before .before .before .part .ensures) _ (c .before .body-checks .ensures) (c .if3 .left),
+  size-limit _ _ (c .before .before .before .before .before .before .read-header .ensures) (c .before .before .before .before .before .if1 .left),
+  body-short _ _ (c .before .before .before .before .before .before .read-header .ensures) (c .before .before .before .before .before .if1 .left) (omega (arith, c .before .before .before .before .if2 .left)) _ _ (c .before .before .type-text .ensures) (c .before .before .before .part .ensures) _ (c .before .body-checks .ensures),
 )
 
 returns-4 : tie.Need-returns-4
-returns-4 c = c .accept .ensures ∙ says-accepted (c .before .before .before .before .before .before .before .before .before .args .stream .now) (c .before .before .before .before .before .before .before .read-header .result) (c .before .before .before .before .before .before .before .read-header .ensures) (c .before .before .before .before .before .before .if1 .left) (omega (arith, c .before .before .before .before .before .if2 .left)) (c .before .before .before .type-text .result .now) (c .before .before .before .before .part .result .now) (c .before .before .before .type-text .ensures) (c .before .before .before .before .part .ensures) (c .before .before .body-checks .result) (c .before .before .body-checks .ensures) (c .before .if3 .left)
+returns-4 c = c .accept .ensures ∙ says-accepted _ _ (c .before .before .before .before .before .before .before .read-header .ensures) (c .before .before .before .before .before .before .if1 .left) (omega (arith, c .before .before .before .before .before .if2 .left)) _ _ (c .before .before .before .type-text .ensures) (c .before .before .before .before .part .ensures) _ (c .before .before .body-checks .ensures) (c .before .if3 .left)
 
 pub read-spec : {M : Type 1} → statement M
 read-spec =

@@ -1,19 +1,12 @@
-use mathlib.Core.Bool.{Bool, true, false}
+-- `message::sections_checks` meets its contract: the checks in turn.
+use mathlib.Core.Path.{sym, _∙_}
 use borrow.Author.Tests.{not-true, not-false}
+use borrow.Author.Needs.{needs}
 use Rattle.message.specs.Check.{sectionsFault}
 use Rattle.message.specs.Writer.{sectionsGiven}
 use Rattle.message.proofs.Laws.Writer.{sections-version, sections-unfit, sections-rest}
-use mathlib.Core.Path.{_≡_, refl, ap, sym, _∙_}
-use native.Mathlib.Omega.{arith}
-use borrow.Author.Tests.{le-ltb, lt-ltb, le-leb, lt-leb, eq-eqb, ne-eqb}
-use borrow.Author.Needs.{needs}
 use Rattle.message.proofs.sections_checks.Statement.{statement}
 use Rattle.message.proofs.sections_checks.Tie as tie
-use Rattle.message.proofs.sections_checks.Reads as reads
-use Rattle.message.proofs.sections_checks.Lts as lts
-use Rattle.message.proofs.body.is_fit.Reads as is-fit-reads
-use Rattle.message.proofs.contents_number.Reads as contents-number-reads
-use Rattle.message.proofs.version_number.Reads as version-number-reads
 
 version-number-requires : tie.Need-version-number-requires
 version-number-requires c κs = search needs

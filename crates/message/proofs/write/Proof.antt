@@ -1,18 +1,11 @@
-use Prim.Native.Nat.{_+_}
-use lib.ListN.{length}
+-- `message::write` meets its contract: the laws of a writer's answer and buffer: refused by a check, by the room, and not refused.
+use mathlib.Core.Path.{sym, _∙_}
+use native.Mathlib.Omega.{arith}
+use borrow.Author.Needs.{needs}
 use Rattle.message.specs.Writer.{given}
 use Rattle.message.proofs.Laws.Writer.{writable, length-body, answers-checks, answers-room, answers-written}
-use mathlib.Core.Path.{_≡_, refl, ap, sym, _∙_}
-use native.Mathlib.Omega.{arith}
-use borrow.Author.Tests.{le-ltb, lt-ltb, le-leb, lt-leb, eq-eqb, ne-eqb}
-use borrow.Author.Needs.{needs}
 use Rattle.message.proofs.write.Statement.{statement}
 use Rattle.message.proofs.write.Tie as tie
-use Rattle.message.proofs.write.Reads as reads
-use Rattle.message.proofs.write.Lts as lts
-use Rattle.message.proofs.body.body_len.Reads as body-len-reads
-use Rattle.message.proofs.put_message.Reads as put-message-reads
-use Rattle.message.proofs.write_checks.Reads as write-checks-reads
 
 write-checks-requires : tie.Need-write-checks-requires
 write-checks-requires c κs = search needs

@@ -1,17 +1,11 @@
+-- `message::write_checks` meets its contract: the checks in turn.
+use mathlib.Core.Path.{sym, _∙_}
 use borrow.Author.Tests.{not-true, not-false}
+use borrow.Author.Needs.{needs}
 use Rattle.message.specs.Writer.{given}
 use Rattle.message.proofs.Laws.Writer.{write-names, write-limit, write-rest, long-body, short-body}
-use mathlib.Core.Path.{_≡_, refl, ap, sym, _∙_}
-use native.Mathlib.Omega.{arith}
-use borrow.Author.Tests.{le-ltb, lt-ltb, le-leb, lt-leb, eq-eqb, ne-eqb}
-use borrow.Author.Needs.{needs}
 use Rattle.message.proofs.write_checks.Statement.{statement}
 use Rattle.message.proofs.write_checks.Tie as tie
-use Rattle.message.proofs.write_checks.Reads as reads
-use Rattle.message.proofs.write_checks.Lts as lts
-use Rattle.header.proofs.names_number.Reads as names-number-reads
-use Rattle.message.proofs.body.within_limit.Reads as within-limit-reads
-use Rattle.message.proofs.sections_checks.Reads as sections-checks-reads
 
 names-number-requires : tie.Need-names-number-requires
 names-number-requires c κs = search needs

@@ -1,26 +1,22 @@
-use Rattle.message.proofs.Laws.Body.{fault-1, fault-2}
+-- `message::body::body_number` meets its contract: the fault of each version.
+use mathlib.Core.Path.{ap, sym, _∙_}
 use mathlib.Core.Bool.{Bool, cond}
-use mathlib.Core.Path.{_≡_, refl, ap, sym, _∙_}
-use native.Mathlib.Omega.{arith}
-use borrow.Author.Tests.{le-ltb, lt-ltb, le-leb, lt-leb, eq-eqb, ne-eqb}
 use borrow.Author.Needs.{needs}
+use Rattle.message.proofs.Laws.Body.{fault-1, fault-2}
 use Rattle.message.proofs.body.body_number.Statement.{statement}
 use Rattle.message.proofs.body.body_number.Tie as tie
-use Rattle.message.proofs.body.body_number.Reads as reads
-use Rattle.message.proofs.body.body_number.Lts as lts
-use Rattle.message.proofs.body.is_extended.Reads as is-extended-reads
 
 returns : tie.Need-returns
-returns c = sym (fault-1 (c .before .before .args .version) (c .before .before .args .body .now) (c .if1 .taken))
+returns c = sym (fault-1 _ _ (c .if1 .taken))
 
 is-extended-requires : tie.Need-is-extended-requires
 is-extended-requires c κs = search needs
 
 returns-2 : tie.Need-returns-2
-returns-2 c = sym (fault-2 (c .before .before .before .before .args .version) (c .before .before .before .before .args .body .now) (c .before .before .if1 .left) ∙ ap (λ (t : Bool). cond t 0 6) (sym (c .before .is-extended .ensures) ∙ c .if2 .taken))
+returns-2 c = sym (fault-2 _ _ (c .before .before .if1 .left) ∙ ap (λ (t : Bool). cond t 0 6) (sym (c .before .is-extended .ensures) ∙ c .if2 .taken))
 
 returns-3 : tie.Need-returns-3
-returns-3 c = sym (fault-2 (c .before .before .before .before .args .version) (c .before .before .before .before .args .body .now) (c .before .before .if1 .left) ∙ ap (λ (t : Bool). cond t 0 6) (sym (c .before .is-extended .ensures) ∙ c .if2 .left))
+returns-3 c = sym (fault-2 _ _ (c .before .before .if1 .left) ∙ ap (λ (t : Bool). cond t 0 6) (sym (c .before .is-extended .ensures) ∙ c .if2 .left))
 
 pub body-number-spec : {M : Type 1} → statement M
 body-number-spec = tie.close (tie.spec returns is-extended-requires returns-2 returns-3)

@@ -1,21 +1,16 @@
+-- `message::body::is_extended` meets its contract: the four tests of check 6 in turn.
 use Prim.Native.Nat.{ℕ, _+_}
-use mathlib.Core.Path.{ap₂}
+use mathlib.Core.Path.{ap₂, sym, _∙_}
+use native.Mathlib.Omega.{arith}
 use lib.Dec.{leb}
 use lib.ListN.{length}
-use Rattle.message.proofs.Laws.Body.{not-extended, extended-last}
-use mathlib.Core.Path.{_≡_, refl, ap, sym, _∙_}
-use native.Mathlib.Omega.{arith}
-use borrow.Author.Tests.{le-ltb, lt-ltb, le-leb, lt-leb, eq-eqb, ne-eqb}
 use borrow.Author.Needs.{needs}
+use Rattle.message.proofs.Laws.Body.{not-extended, extended-last}
 use Rattle.message.proofs.body.is_extended.Statement.{statement}
 use Rattle.message.proofs.body.is_extended.Tie as tie
-use Rattle.message.proofs.body.is_extended.Reads as reads
-use Rattle.message.proofs.body.is_extended.Lts as lts
-use Rattle.fields.proofs.number.be16.Reads as be16-reads
-use Rattle.fields.proofs.number.be32.Reads as be32-reads
 
 returns : tie.Need-returns
-returns c = sym (not-extended (c .before .before .args .body .now) (λ p. omega (arith, p .long, c .if1 .taken)))
+returns c = sym (not-extended _ (λ p. omega (arith, p .long)))
 
 be16-requires : tie.Need-be16-requires
 be16-requires c κs = search needs
@@ -42,8 +37,11 @@ add-result : tie.Need-add-result
 add-result c = search needs
 
 returns-4 : tie.Need-returns-4
-returns-4 c = ap₂ (λ (x y : ℕ). leb (x + y) (length (c .before .before .before .before .before .before .before .args .body .now))) (c .before .before .before .before .be16 .ensures) (c .be162 .ensures)
-    ∙ extended-last (c .before .before .before .before .before .before .before .args .body .now) (omega (arith, c .before .before .before .before .before .if1 .left)) (omega (arith, c .before .before .before .before .be16 .ensures, c .before .before .before .if2 .left)) (sym (c .before .before .be32 .ensures) ∙ c .before .if3 .left)
+returns-4 c =
+    let b = c .before .before .before .before .before .before .before .args .body .now in
+    let size = c .before .before .before .before .be16 .ensures in
+    ap₂ (λ (x y : ℕ). leb (x + y) (length b)) size (c .be162 .ensures)
+    ∙ extended-last b (omega arith) (omega (arith, size)) (sym (c .before .before .be32 .ensures) ∙ c .before .if3 .left)
 
 pub is-extended-spec : {M : Type 1} → statement M
 is-extended-spec =

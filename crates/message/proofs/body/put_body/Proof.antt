@@ -1,17 +1,12 @@
+-- `message::body::put_body` meets its contract: the stores of each version.
+use mathlib.Core.Path.{ap, sym, _∙_}
 use lib.Seq.{sets}
+use borrow.Author.Needs.{needs}
 use Rattle.message.specs.Writer.{sectionsGiven}
 use Rattle.message.proofs.Laws.Body.{body-1, body-2}
 use Rattle.message.proofs.Laws.Writer.{sizes-passed}
-use mathlib.Core.Path.{_≡_, refl, ap, sym, _∙_}
-use native.Mathlib.Omega.{arith}
-use borrow.Author.Tests.{le-ltb, lt-ltb, le-leb, lt-leb, eq-eqb, ne-eqb}
-use borrow.Author.Needs.{needs}
 use Rattle.message.proofs.body.put_body.Statement.{statement}
 use Rattle.message.proofs.body.put_body.Tie as tie
-use Rattle.message.proofs.body.put_body.Reads as reads
-use Rattle.message.proofs.body.put_body.Lts as lts
-use Rattle.fields.proofs.store.put.Reads as put-reads
-use Rattle.message.proofs.body.put_extended.Reads as put-extended-reads
 
 put-extended-requires : tie.Need-put-extended-requires
 put-extended-requires c κs = let a = c .before .before .before .before .before .before .args in

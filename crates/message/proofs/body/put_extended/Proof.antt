@@ -1,21 +1,15 @@
+-- `message::body::put_extended` meets its contract: seven stores, each where the one before it ends, are one of the joined fields.
 use Prim.Native.Nat.{ℕ, _+_}
+use mathlib.Core.Path.{ap, _∙_}
 use mathlib.Core.List.{List}
 use lib.ListN.{length}
 use lib.Seq.{sets}
+use borrow.Author.Needs.{needs}
 use Rattle.fields.specs.Numbers.{beBytes}
 use Rattle.message.specs.Writer.{sectionsGiven}
 use Rattle.message.proofs.Laws.Body.{extended-stored}
-use mathlib.Core.Path.{_≡_, refl, ap, sym, _∙_}
-use native.Mathlib.Omega.{arith}
-use borrow.Author.Tests.{le-ltb, lt-ltb, le-leb, lt-leb, eq-eqb, ne-eqb}
-use borrow.Author.Needs.{needs}
 use Rattle.message.proofs.body.put_extended.Statement.{statement}
 use Rattle.message.proofs.body.put_extended.Tie as tie
-use Rattle.message.proofs.body.put_extended.Reads as reads
-use Rattle.message.proofs.body.put_extended.Lts as lts
-use Rattle.fields.proofs.number.put16.Reads as put16-reads
-use Rattle.fields.proofs.number.put32.Reads as put32-reads
-use Rattle.fields.proofs.store.put.Reads as put-reads
 
 add-content-at : tie.Need-add-content-at
 add-content-at c = search needs

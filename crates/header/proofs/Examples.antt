@@ -1,0 +1,6 @@
+-- The examples, by computation. Assumes nothing.
+use mathlib.Core.Path.{refl}
+use Rattle.header.specs.Examples.{Examples}
+
+pub examples : Examples
+examples = record { seconds = refl; half = refl; least = refl; rounded-down = refl; largest = refl }
