@@ -11,7 +11,7 @@ use Rattle.fields.specs.Checks.{orElse}
 use Rattle.fields.specs.Text.{Holds}
 use Rattle.fields.specs.Answer.{writtenNumber, roomFault}
 use Rattle.header.specs.Header.{Header, WellTexts, HeaderFits, WellHeader, encodeHeader, limit}
-use Rattle.header.specs.Check.{headerOf, headerFault, handed, refused, headerRead, headerWritten, headerOut}
+use Rattle.header.specs.Check.{headerOf, headerFault, handed, refused, headerRead, given, headerWritten, headerOut}
 
 -- some well formed header is written as the front of these bytes
 pub record BeginsWith (s : List ℕ) (h : Header) : Type 0 where
@@ -27,6 +27,18 @@ IsTextField n at s = (t : List ℕ) × Holds (part n at s) t
 abbrev pub TextsHeld : List ℕ → Type 0
 TextsHeld s = IsTextField 12 2 s × IsTextField 20 14 s
 
+-- what the writer is given when its arguments are what `read_header`, `type_text` and `device_name` hand out
+abbrev pub givenBack : List ℕ → Header
+givenBack s =
+    given
+    (record {
+      version = headerRead s .version;
+      «time_stamp» = headerRead s .«time_stamp»;
+      «body_size» = headerRead s .«body_size»;
+      crc = headerRead s .crc;
+    })
+    (headerOf s .typeText) (headerOf s .deviceName)
+
 pub record Headers : Type 0 where
   pub width : (h : Header) → length (encodeHeader h) ≡ 58
   pub accepted : (s : List ℕ) → Bytes s → headerFault s ≡ 0 → BeginsWith s (headerOf s)
@@ -41,7 +53,7 @@ pub record Headers : Type 0 where
   pub names : (h : Header) (room : ℕ) → (WellTexts (h .typeText) (h .deviceName) → ⊥) → writtenNumber (headerWritten h room) ≡ 2
   pub number : (h : Header) (room : ℕ) → HeaderFits h
       → writtenNumber (headerWritten h room) ≡ orElse (headerFault (encodeHeader h)) (roomFault 58 room)
-  pub answered-back : (s : List ℕ) (room : ℕ) → Bytes s → headerFault s ≡ 0 → 58 ≤ room → headerWritten (headerOf s) room ≡ Wrote 58
-  pub written-back : (s out : List ℕ) → Bytes s → headerFault s ≡ 0 → 58 ≤ length out → headerOut (headerOf s) out ≡ take 58 s ++ drop 58 out
+  pub answered-back : (s : List ℕ) (room : ℕ) → Bytes s → headerFault s ≡ 0 → 58 ≤ room → headerWritten (givenBack s) room ≡ Wrote 58
+  pub written-back : (s out : List ℕ) → Bytes s → headerFault s ≡ 0 → 58 ≤ length out → headerOut (givenBack s) out ≡ take 58 s ++ drop 58 out
   -- a refusal leaves the buffer as it was
   pub untouched : (h : Header) (out : List ℕ) → (writtenNumber (headerWritten h (length out)) ≡ 0 → ⊥) → headerOut h out ≡ out

@@ -6,15 +6,22 @@ use mathlib.Core.List.{List, _++_}
 use lib.ListN.{length, take, drop}
 use Rattle.fields.specs.declared.Written.the-variants.{Wrote}
 use Rattle.fields.specs.Bytes.{Bytes}
-use Rattle.message.specs.Message.{Message, WellFormed, partsOf, bodyOf, encode}
-use Rattle.message.specs.Check.{readOf, handed}
-use Rattle.message.specs.Writer.{messageWritten, messageOut}
+use Rattle.message.specs.declared.Answer.{Answer}
+use Rattle.message.specs.Message.{Message, WellFormed, Parts, partsOf, bodyOf, encode}
+use Rattle.message.specs.Check.{readOf, typeIn, nameIn, furtherIn, contentIn, metadataIn, handed}
+use Rattle.message.specs.Writer.{given, messageWritten, messageOut}
 
 -- the bytes of the message m are the front of the stream s
 pub record Begins (s : List ℕ) (m : Message) : Type 0 where
   pub well : WellFormed m
   pub rest : List ℕ
   pub bytes : encode m ++ rest ≡ s
+
+-- what `write` is given when its arguments are the fields and the parts that an answer hands out
+abbrev pub givenBack : List ℕ → Answer → Parts
+givenBack s a =
+    given (record { version = a .version; «time_stamp» = a .«time_stamp»; id = a .id })
+    (typeIn s a) (nameIn s a) (furtherIn s a) (contentIn s a) (metadataIn s a)
 
 -- readOf is what `read` answers, `handed` what the answer and the functions for its parts give of the stream, messageWritten and
 -- messageOut what `write` answers and leaves in the buffer
@@ -31,6 +38,6 @@ pub record Demand2 : Type 0 where
   pub size : (m : Message) → length (encode m) ≡ 58 + length (bodyOf (partsOf m))
   -- the writer, given what is handed out and room, writes those bytes, and keeps the bytes beyond
   pub answered-back : (s : List ℕ) (room : ℕ) → Bytes s → readOf s .number ≡ 0 → readOf s .step ≤ room
-      → messageWritten (handed s (readOf s)) room ≡ Wrote (readOf s .step)
+      → messageWritten (givenBack s (readOf s)) room ≡ Wrote (readOf s .step)
   pub written-back : (s out : List ℕ) → Bytes s → readOf s .number ≡ 0 → readOf s .step ≤ length out
-      → messageOut (handed s (readOf s)) out ≡ take (readOf s .step) s ++ drop (readOf s .step) out
+      → messageOut (givenBack s (readOf s)) out ≡ take (readOf s .step) s ++ drop (readOf s .step) out

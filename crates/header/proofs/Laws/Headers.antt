@@ -11,8 +11,8 @@ use Rattle.fields.specs.Answer.{writtenNumber, roomFault}
 use Rattle.fields.proofs.Laws.Answer.{written-number, room-enough}
 use Rattle.fields.proofs.Laws.Text.{text-fields}
 use Rattle.header.specs.Header.{Header, WellTexts, HeaderFits, encodeHeader, limit}
-use Rattle.header.specs.Check.{headerOf, textsFault, limitFault, headerFault, handed, refused, headerRead, namesFault, writeFault, headerWritten}
-use Rattle.header.specs.Headers.{BeginsWith, TextsHeld, Headers}
+use Rattle.header.specs.Check.{headerOf, textsFault, limitFault, headerFault, handed, refused, headerRead, namesFault, writeFault, headerWritten, headerOut}
+use Rattle.header.specs.Headers.{BeginsWith, TextsHeld, givenBack, Headers}
 use Rattle.header.proofs.Laws.Faults.{texts-pass, texts-passed, names-pass, names-passed, names-refused, limit-pass, limit-refused, fault-short, fault-texts, fault-limit, header-read-passed, header-read-refused}
 use Rattle.header.proofs.Laws.Layout.{length-header, header-read, header-number, header-back, header-fits}
 use Rattle.header.proofs.Laws.Writer.{write-names, write-named, write-room, answer-wrote, out-header, out-kept}
@@ -74,6 +74,20 @@ written-as-read h room f =
     ∙ write-named h room (names-pass (h .typeText) (h .deviceName) (f .texts))
     ∙ ap (λ (n : ℕ). orElse n (roomFault 58 room)) (sym number)
 
+-- what is handed out is the header that was read
+given-back : (s : List ℕ) → headerFault s ≡ 0 → givenBack s ≡ headerOf s
+given-back s h =
+    let e : headerRead s ≡ handed (headerOf s) = header-read-passed s h in
+    λ i.
+    record {
+      version = e i .version;
+      typeText = headerOf s .typeText;
+      deviceName = headerOf s .deviceName;
+      timeStamp = e i .«time_stamp»;
+      bodySize = e i .«body_size»;
+      crc = e i .crc;
+    }
+
 -- what was read is written where there is room
 write-read : (s : List ℕ) (room : ℕ) → Bytes s → headerFault s ≡ 0 → 58 ≤ room → writeFault (headerOf s) room ≡ 0
 write-read s room b h k =
@@ -95,8 +109,11 @@ headers =
       too-long = λ s h t k. refused-with s 3 (above-limit s h t k) (λ e. omega arith);
       names = written-names;
       number = written-as-read;
-      answered-back = λ s room b h k. answer-wrote (headerOf s) room (write-read s room b h k);
+      answered-back = λ s room b h k.
+          ap (λ (g : Header). headerWritten g room) (given-back s h) ∙ answer-wrote (headerOf s) room (write-read s room b h k);
       written-back = λ s out b h k.
-          out-header (headerOf s) out (write-read s (length out) b h k) ∙ ap (λ (l : List ℕ). l ++ drop 58 out) (header-back s b h);
+          ap (λ (g : Header). headerOut g out) (given-back s h)
+          ∙ out-header (headerOf s) out (write-read s (length out) b h k)
+          ∙ ap (λ (l : List ℕ). l ++ drop 58 out) (header-back s b h);
       untouched = λ h out k. out-kept h out (λ e. k (written-fault h (length out) ∙ e));
     }

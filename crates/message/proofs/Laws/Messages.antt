@@ -28,7 +28,7 @@ use Rattle.message.specs.Body.{Sections, WellSections, encodeBody}
 use Rattle.message.specs.Message.{Message, Parts, partsOf, bodyOf, headerFor, encodeParts, encode, WellFormed}
 use Rattle.message.specs.Check.{versionFault, sectionsFault, sectionsOf, bodyAt, numberOf, readOf, handed, placesOf}
 use Rattle.message.specs.Writer.{fitFault, sectionsChecks, writeChecks, writeFault, messageWritten, messageOut}
-use Rattle.message.specs.Demand2.{Begins, Demand2}
+use Rattle.message.specs.Demand2.{Begins, givenBack, Demand2}
 use Rattle.header.proofs.Laws.Layout.{header-fits}
 use Rattle.header.proofs.Laws.Faults.{names-pass, limit-pass}
 use Rattle.metadata.proofs.Laws.Metadatas.{metadatas}
@@ -187,20 +187,23 @@ well-written m room w h =
 begun-take : (s : List ℕ) (m : Message) → Begins s m → take (length (encode m)) s ≡ encode m
 begun-take s m b = ap (take (length (encode m))) (sym (b .bytes)) ∙ take-at (encode m) (b .rest) (length (encode m)) refl
 
-begun-answered : (s : List ℕ) (m : Message) (room : ℕ) → Begins s m → readOf s .step ≤ room → messageWritten (handed s (readOf s)) room ≡ Wrote (readOf s .step)
+begun-given : (s : List ℕ) (m : Message) → Begins s m → givenBack s (readOf s) ≡ partsOf m
+begun-given s m b = begun-handed s m b
+
+begun-answered : (s : List ℕ) (m : Message) (room : ℕ) → Begins s m → readOf s .step ≤ room → messageWritten (givenBack s (readOf s)) room ≡ Wrote (readOf s .step)
 unfolding messageWritten
 begun-answered s m room b h =
     let k : length (encode m) ≤ room = subst (λ (n : ℕ). n ≤ room) (begun-step s m b) h in
-    ap (λ (p : Parts). messageWritten p room) (begun-handed s m b)
+    ap (λ (p : Parts). messageWritten p room) (begun-given s m b)
     ∙ written-wrote (writeFault (partsOf m) room) (length (encode m)) (well-written m room (b .well) k)
     ∙ ap Wrote (sym (begun-step s m b))
 
 begun-written : (s out : List ℕ) (m : Message) → Begins s m → readOf s .step ≤ length out
-    → messageOut (handed s (readOf s)) out ≡ take (readOf s .step) s ++ drop (readOf s .step) out
+    → messageOut (givenBack s (readOf s)) out ≡ take (readOf s .step) s ++ drop (readOf s .step) out
 unfolding messageOut
 begun-written s out m b h =
     let k : length (encode m) ≤ length out = subst (λ (n : ℕ). n ≤ length out) (begun-step s m b) h in
-    ap (λ (p : Parts). messageOut p out) (begun-handed s m b)
+    ap (λ (p : Parts). messageOut p out) (begun-given s m b)
     ∙ out-wrote (writeFault (partsOf m) (length out)) (encode m) out (well-written m (length out) (b .well) k)
     ∙ ap (λ (l : List ℕ). l ++ drop (length (encode m)) out) (sym (begun-take s m b))
     ∙ ap (λ (n : ℕ). take n s ++ drop n out) (sym (begun-step s m b))
