@@ -1,8 +1,20 @@
 //! Document 01's numbers for what is refused.
 
-/// Why a content, a look-up or a writer's call is refused; the discriminant is the number given back.
-#[derive(Clone, Copy, Debug, PartialEq, Eq)]
+/// Why a message, a content, a look-up or a writer's call is refused; the discriminant is the
+/// number given back.
+#[derive(Clone, Copy, Debug, PartialEq, Eq, PartialOrd, Ord)]
 pub enum Fault {
+    /// Fewer bytes than a header, or than the message that it announces.
+    Short = 1,
+    /// A type or a device name is no text, or does not fit its field.
+    Text = 2,
+    /// A body above the limit.
+    Limit = 3,
+    Version = 4,
+    Crc = 5,
+    /// The extended header, or what cannot be had with this version.
+    Extended = 6,
+    Metadata = 7,
     /// A TRANSFORM or POSITION of another length.
     Length = 8,
     Image = 9,
@@ -13,10 +25,28 @@ pub enum Fault {
     Room = 20,
 }
 
+/// The fault with the smallest number, which is the first one wherever the numbers ascend in the
+/// order of the checks: from the version on in the reader, and throughout in the writers.
+pub fn smallest<const N: usize>(faults: [Option<Fault>; N]) -> Option<Fault> {
+    faults.into_iter().flatten().min()
+}
+
 /// The number of an answer, 0 where it is accepted.
 pub fn number<T>(answer: &Result<T, Fault>) -> u8 {
     match answer {
         Ok(_) => 0,
         Err(fault) => *fault as u8,
+    }
+}
+
+#[cfg(test)]
+mod tests {
+    use super::{smallest, Fault};
+
+    #[test]
+    fn the_smallest_number_counts() {
+        let faults = [Some(Fault::Room), None, Some(Fault::Crc), Some(Fault::Bind)];
+        assert_eq!(smallest(faults), Some(Fault::Crc));
+        assert_eq!(smallest([None, None]), None);
     }
 }

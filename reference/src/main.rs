@@ -8,8 +8,11 @@ mod content;
 mod crc;
 mod cursor;
 mod fault;
+mod listing;
 mod lookup;
+mod message;
 mod random;
+mod text;
 mod vectors;
 mod writer;
 

@@ -1,10 +1,12 @@
-//! Content writers: the bytes into the front of a lent buffer, or nothing of it touched.
+//! Writers of contents, headers and messages: the bytes into the front of a lent buffer, or nothing
+//! of it touched.
 
 use crate::content::bind::{self, Part};
 use crate::content::image::{Header, Image};
 use crate::content::parse_nested;
 use crate::content::pose::{Position, Transform};
 use crate::fault::Fault;
+use crate::message::{header, Message};
 
 /// How many bytes were written.
 pub type Written = Result<usize, Fault>;
@@ -46,6 +48,14 @@ fn encode_bind(types: &[&[u8]], names: &[&[u8]], contents: &[&[u8]]) -> Result<V
     Ok(bytes)
 }
 
+pub fn write_header(header: &header::Header, out: &mut [u8]) -> Written {
+    store(&header.encode()?, out)
+}
+
+pub fn write_message(message: &Message, out: &mut [u8]) -> Written {
+    store(&message.encode()?, out)
+}
+
 fn store(bytes: &[u8], out: &mut [u8]) -> Written {
     let front = out.get_mut(..bytes.len()).ok_or(Fault::Room)?;
     front.copy_from_slice(bytes);
@@ -54,9 +64,10 @@ fn store(bytes: &[u8], out: &mut [u8]) -> Written {
 
 #[cfg(test)]
 mod tests {
-    use super::{write_bind, write_position, write_transform};
+    use super::{write_bind, write_message, write_position, write_transform};
     use crate::content::pose::Transform;
     use crate::fault::Fault;
+    use crate::message::Message;
 
     #[test]
     fn bytes_beyond_keep_their_contents() {
@@ -92,5 +103,20 @@ mod tests {
         assert_eq!(write(b"TRANSFORM", &[]), Err(Fault::Bind));
         assert_eq!(write(b"TRANSFORM", &[b"A"]), Err(Fault::Length));
         assert_eq!(write(b"STATUS", &[b"A"]), Err(Fault::Room));
+    }
+
+    #[test]
+    fn a_message_of_no_body_takes_58_bytes() {
+        let message = Message {
+            version: 1,
+            ..Message::default()
+        };
+        let mut out = [7; 59];
+        let room = &mut out[..57];
+        assert_eq!(write_message(&message, room), Err(Fault::Room));
+        assert_eq!(out, [7; 59]);
+        assert_eq!(write_message(&message, &mut out), Ok(58));
+        assert_eq!(out[..3], [0, 1, 0]);
+        assert_eq!(out[57..], [0, 7]);
     }
 }

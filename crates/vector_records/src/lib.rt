@@ -1,5 +1,6 @@
 // What the vector program reads and writes: the records of its input, and the words of its lines. A record is a length of
 // two bytes, big endian, and then that many bytes; so is each field of a record.
+use fields::Written;
 use libc::STDOUT_FILENO;
 ghost use mathlib.Core.Path.{_≡_};
 ghost use Prim.Native.Nat.{_+_};
@@ -73,6 +74,18 @@ pub fn print_number(n: u64) {
 pub fn print_word(word: u32) {
     io::write_all(STDOUT_FILENO, b" ");
     io::print_hex(STDOUT_FILENO, word as u64, 8);
+}
+
+// A CRC, as 16 hexadecimal digits.
+pub fn print_crc(crc: u64) {
+    io::write_all(STDOUT_FILENO, b" ");
+    io::print_hex(STDOUT_FILENO, crc, 16);
+}
+
+// The answer of a writer: its number, and how many bytes it wrote.
+pub fn print_written(written: Written) {
+    print_number(written.number() as u64);
+    print_number(written.count() as u64);
 }
 
 // Bytes, as two hexadecimal digits each; a dash where there are none.

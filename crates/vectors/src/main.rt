@@ -1,12 +1,15 @@
 // Reads a run of records from standard input and writes a line for each: what the functions that it asks for answer. A record is its
-// kind, a letter, and then its fields (crate vector_records); a line begins with the kind. The module of each topic lists its kinds
-// with their fields. A record that the input's end cuts short ends the run.
+// kind, a letter, and then its fields (crate vector_records); a line begins with the kind. The module of each topic, here and in
+// vector_messages, and vector_writers list their kinds with their fields. A record that the input's end cuts short ends the run.
 mod children;
 mod contents;
 mod crc;
-mod writers;
 
 use libc::STDIN_FILENO;
+use vector_messages::headers;
+use vector_messages::messages;
+use vector_messages::streams;
+use vector_messages::values;
 use vector_records::after_field;
 use vector_records::field;
 
@@ -26,8 +29,16 @@ fn print_answer(record: &[u8]) {
         b'L' => children::print_lookups(field(first), second),
         b'M' => children::print_patched(field(first), field(second), third),
         b'E' => children::print_either(field(first), field(second), field(third)),
-        b't' | b'p' | b'i' | b'b' => writers::print_short(kind, field(first), second),
-        b'n' | b'm' => writers::print_long(kind, field(first), field(second)),
+        b'H' => headers::print_header(field(first)),
+        b's' => headers::print_stamp(field(first)),
+        b'D' => values::print_value(field(first), field(second)),
+        b'R' => messages::print_message(field(first)),
+        b'Q' => messages::print_patched(field(first), field(second)),
+        b'S' => streams::print_steps(field(first)),
+        b't' | b'p' | b'i' | b'b' | b'h' | b'w' => {
+            vector_writers::print_short(kind, field(first), second)
+        }
+        b'n' | b'm' | b'W' => vector_writers::print_long(kind, field(first), second),
         _ => {}
     }
     vector_records::end_line();

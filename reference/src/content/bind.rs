@@ -4,6 +4,7 @@
 //! the parts together again gives the same bytes.
 
 use crate::cursor::Cursor;
+use crate::text;
 
 const TYPE_LENGTH: usize = 12;
 
@@ -29,9 +30,9 @@ pub fn join(parts: &[Part]) -> Option<Vec<u8>> {
     let mut table = Vec::new();
     let mut data = Vec::new();
     for part in parts {
-        headers.extend(type_field(part.type_text)?);
+        headers.extend(text::field::<TYPE_LENGTH>(part.type_text)?);
         headers.extend(u64::try_from(part.data.len()).ok()?.to_be_bytes());
-        table.extend(Some(part.name).filter(|name| is_text(name))?);
+        table.extend(Some(part.name).filter(|name| text::is_text(name))?);
         table.push(0);
         data.extend(part.data);
         fill_word(&mut data);
@@ -52,7 +53,7 @@ fn take_apart(content: &[u8]) -> Option<Vec<Part<'_>>> {
     let mut names = cursor.run(table_size.into())?.split(|&byte| byte == 0);
     let parts = headers.into_iter().map(|(field, size)| {
         let part = Part {
-            type_text: field.split(|&byte| byte == 0).next()?,
+            type_text: text::in_field(field),
             name: names.next()?,
             data: cursor.run(size)?,
         };
@@ -60,17 +61,6 @@ fn take_apart(content: &[u8]) -> Option<Vec<Part<'_>>> {
         Some(part)
     });
     parts.collect()
-}
-
-/// A text and zeros to the end of its field, where it is a text and fits.
-fn type_field(text: &[u8]) -> Option<[u8; TYPE_LENGTH]> {
-    let mut field = [0; TYPE_LENGTH];
-    field.get_mut(..text.len())?.copy_from_slice(text);
-    is_text(text).then_some(field)
-}
-
-fn is_text(bytes: &[u8]) -> bool {
-    bytes.iter().all(|byte| (1..=127).contains(byte))
 }
 
 /// One 0 byte where the number of bytes is odd.

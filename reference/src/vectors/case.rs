@@ -1,5 +1,6 @@
 //! A case: the record that the program reads and the line that it writes.
 
+use crate::crc::crc;
 use std::fmt::{Display, Write};
 
 #[derive(Clone)]
@@ -27,7 +28,7 @@ impl Case {
         self.text(format_args!(" {number}"))
     }
 
-    pub fn numbers(self, numbers: impl IntoIterator<Item = u16>) -> Self {
+    pub fn numbers<N: Display>(self, numbers: impl IntoIterator<Item = N>) -> Self {
         numbers.into_iter().fold(self, Case::number)
     }
 
@@ -42,6 +43,11 @@ impl Case {
     pub fn words(self, words: &[u32]) -> Self {
         let bytes = words.iter().map(|word| word.to_be_bytes());
         bytes.fold(self, |case, bytes| case.bytes(&bytes))
+    }
+
+    /// One more word of the line: the CRC of bytes that are too many for it.
+    pub fn checksum(self, bytes: &[u8]) -> Self {
+        self.bytes(&crc(bytes).to_be_bytes())
     }
 
     fn text(mut self, text: impl Display) -> Self {

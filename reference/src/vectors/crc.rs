@@ -1,7 +1,6 @@
 //! Cases of the CRC.
 
 use super::case::Case;
-use crate::crc::crc;
 use crate::random::Random;
 
 const SEED: u64 = 1;
@@ -11,9 +10,7 @@ pub fn cases() -> Vec<Case> {
 }
 
 fn crc_case(body: &[u8]) -> Case {
-    Case::of_kind('K')
-        .given(body)
-        .bytes(&crc(body).to_be_bytes())
+    Case::of_kind('K').given(body).checksum(body)
 }
 
 fn bodies() -> Vec<Vec<u8>> {

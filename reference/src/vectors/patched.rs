@@ -1,4 +1,4 @@
-//! Contents too long for a record: zeros but for two bytes at each of some places.
+//! Contents and streams too long for a record: zeros but for two bytes at each of some places.
 
 /// A length and the patches, which the program is given to make the content itself.
 #[derive(Clone)]
@@ -11,6 +11,18 @@ impl Patched {
     pub fn new(length: u32, patches: &[(u32, u16)]) -> Self {
         let patches = patches.to_vec();
         Patched { length, patches }
+    }
+
+    /// The patches that make these bytes, two at least.
+    pub fn of(bytes: &[u8]) -> Self {
+        let last = bytes.len() - 2;
+        let places = (0..bytes.len()).step_by(2).map(|place| place.min(last));
+        let patches = places.map(|place| {
+            let value = u16::from_be_bytes([bytes[place], bytes[place + 1]]);
+            (word(place), value)
+        });
+        let patches: Vec<_> = patches.filter(|&(_, value)| value != 0).collect();
+        Patched::new(word(bytes.len()), &patches)
     }
 
     /// The BIND of so many children without type, name or data, and an even number of bytes for
@@ -53,6 +65,10 @@ impl Patched {
     }
 }
 
+fn word(number: usize) -> u32 {
+    u32::try_from(number).expect("a place fits four bytes")
+}
+
 #[cfg(test)]
 mod tests {
     use super::Patched;
@@ -63,5 +79,12 @@ mod tests {
         let content = Patched::children(65_534).content();
         assert_eq!(content.len(), 1_376_218);
         assert!(parse(b"BIND", &content).is_ok());
+    }
+
+    #[test]
+    fn the_patches_of_bytes_make_them() {
+        for bytes in [&[0, 7, 0, 0, 8][..], &[0, 7, 0, 0, 8, 9], &[0; 7]] {
+            assert_eq!(Patched::of(bytes).content(), bytes);
+        }
     }
 }

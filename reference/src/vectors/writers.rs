@@ -1,15 +1,13 @@
-//! Cases of writers: each content writer into rooms that are too short, just enough, and larger.
-//! The line shows the whole buffer afterwards.
+//! Cases of content writers.
 
 use super::bundles::{faulty, faulty_pairs, nest, part, EMPTY};
 use super::case::{field, Case};
 use super::contents::ODD_WORDS;
+use super::out::{answered, rooms, summed, Out};
 use super::{images, trees};
 use crate::content::bind::Part;
 use crate::content::image::Header;
 use crate::content::pose::Transform;
-use crate::crc::crc;
-use crate::fault::number;
 use crate::random::Random;
 use crate::writer::{write_bind, write_image, write_position, write_transform, Written};
 
@@ -28,43 +26,6 @@ pub fn cases() -> Vec<Case> {
         many_children(),
     ]
     .concat()
-}
-
-/// A buffer of this room, all bytes the same before the call.
-#[derive(Clone, Copy)]
-struct Out {
-    room: usize,
-    fill: u8,
-}
-
-impl Out {
-    fn new(room: usize) -> Self {
-        Out { room, fill: 0xAA }
-    }
-
-    /// A case that begins with the room in four bytes and the fill.
-    fn case(self, kind: char) -> Case {
-        let room = u32::try_from(self.room).expect("a room fits four bytes");
-        Case::of_kind(kind).given(&[&room.to_be_bytes()[..], &[self.fill]].concat())
-    }
-
-    /// What a writer answers, and the buffer after it.
-    fn after(self, write: impl FnOnce(&mut [u8]) -> Written) -> (Written, Vec<u8>) {
-        let mut out = vec![self.fill; self.room];
-        (write(&mut out), out)
-    }
-}
-
-/// Rooms around this length.
-fn rooms(length: usize) -> [Out; 5] {
-    let rooms = [0, length.saturating_sub(1), length, length + 1, length + 9];
-    rooms.map(Out::new)
-}
-
-fn answered(case: Case, (written, out): (Written, Vec<u8>)) -> Case {
-    case.number(number(&written))
-        .number(written.unwrap_or(0))
-        .bytes(&out)
 }
 
 fn transforms(random: &mut Random) -> Vec<Case> {
@@ -182,19 +143,21 @@ fn binds() -> Vec<Case> {
     cases.collect()
 }
 
+/// Types on both sides of the rule of a type's field.
+pub const TYPES: [&[u8]; 9] = [
+    b"",
+    b"STATUS",
+    b"TWELVE_BYTES",
+    b"THIRTEEN_BYTE",
+    b"\x01\x7F",
+    b"STATUS\0",
+    b"\0",
+    b"ST\x80TUS",
+    b"\xFF",
+];
+
 /// One child with types and names around what can be written.
 fn texts() -> Vec<Lists<'static>> {
-    let types: [&[u8]; 9] = [
-        b"",
-        b"STATUS",
-        b"TWELVE_BYTES",
-        b"THIRTEEN_BYTE",
-        b"\x01\x7F",
-        b"STATUS\0",
-        b"\0",
-        b"ST\x80TUS",
-        b"\xFF",
-    ];
     let names: [&[u8]; 9] = [
         b"",
         b"A",
@@ -206,7 +169,7 @@ fn texts() -> Vec<Lists<'static>> {
         b"A\x80",
         b"\xFF",
     ];
-    let of_types = types.map(|type_text| part(type_text, b"A", b"odd"));
+    let of_types = TYPES.map(|type_text| part(type_text, b"A", b"odd"));
     let of_names = names.map(|name| part(b"STATUS", name, b"even"));
     let parts = of_types.into_iter().chain(of_names);
     parts.map(|part| Lists::of(&[part])).collect()
@@ -339,11 +302,4 @@ fn many_children() -> Vec<Case> {
         summed(case, out.after(|out| lists.write(out)))
     });
     cases.to_vec()
-}
-
-/// The answer, and the CRC of the buffer, which is too long for a line.
-fn summed(case: Case, (written, out): (Written, Vec<u8>)) -> Case {
-    case.number(number(&written))
-        .number(written.unwrap_or(0))
-        .bytes(&crc(&out).to_be_bytes())
 }

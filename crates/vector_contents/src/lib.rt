@@ -1,14 +1,4 @@
-// What a content writer answers, its number and the bytes written, and the whole buffer afterwards. out is the buffer's length, four
-// bytes, and the byte that fills it:
-//
-//   t out, words                    a TRANSFORM of twelve words
-//   p out, words                    a POSITION
-//   i out, header, pixels           an IMAGE; the header's fields in the order of a content
-//   b out, types, names, contents   a BIND; each list is its length, one byte, up to 4, and so many fields
-//   n out, length                   a BIND of one child, whose name is so many letters A
-//   m out, count                    a BIND of so many children that hold nothing
-//
-// For n and m, whose buffers are long, the CRC of the buffer stands for it.
+// The writers of contents, called with what a record gives: its fields after out.
 use fields::Written;
 use fields::number::be8;
 use fields::number::be16;
@@ -17,8 +7,6 @@ use image::ImageHeader;
 use pose::Transform;
 use vector_records::after_field;
 use vector_records::field;
-use vector_records::print_bytes;
-use vector_records::print_number;
 
 fn words(s: &[u8], at: usize) -> [u32; 3] {
     let t = fields::slice::rest(s, at);
@@ -30,7 +18,8 @@ fn sizes(s: &[u8], at: usize) -> [u16; 3] {
     [be16(t, 0), be16(t, 2), be16(t, 4)]
 }
 
-fn write_transform(s: &[u8], out: &mut [u8]) -> Written {
+pub fn write_transform(given: &[u8], out: &mut [u8]) -> Written {
+    let s = field(given);
     let column1 = words(s, 0);
     let column2 = words(s, 12);
     let column3 = words(s, 24);
@@ -49,7 +38,8 @@ fn first_words(words: &[u32], n: usize) -> &[u32] {
     if n <= words.len() { &words[..n] } else { words }
 }
 
-fn write_position(s: &[u8], out: &mut [u8]) -> Written {
+pub fn write_position(given: &[u8], out: &mut [u8]) -> Written {
+    let s = field(given);
     let a = words(s, 0);
     let b = words(s, 12);
     let c = words(s, 24);
@@ -95,6 +85,10 @@ fn header(s: &[u8]) -> ImageHeader {
     }
 }
 
+pub fn write_image(given: &[u8], out: &mut [u8]) -> Written {
+    image::write_image(header(field(given)), field(after_field(given)), out)
+}
+
 // The field at a place of a list, whose first byte is its length.
 fn item(list: &[u8], i: usize) -> &[u8] {
     let mut left = fields::slice::rest(list, 1);
@@ -112,7 +106,7 @@ fn first_parts<'a, 'b>(parts: &'a [&'b [u8]], n: usize) -> &'a [&'b [u8]] {
     if n <= parts.len() { &parts[..n] } else { parts }
 }
 
-fn write_bind<'a>(ts: &'a [u8], ns: &'a [u8], cs: &'a [u8], out: &mut [u8]) -> Written {
+fn write_lists<'a>(ts: &'a [u8], ns: &'a [u8], cs: &'a [u8], out: &mut [u8]) -> Written {
     let types = [item(ts, 0), item(ts, 1), item(ts, 2), item(ts, 3)];
     let names = [item(ns, 0), item(ns, 1), item(ns, 2), item(ns, 3)];
     let contents = [item(cs, 0), item(cs, 1), item(cs, 2), item(cs, 3)];
@@ -122,34 +116,12 @@ fn write_bind<'a>(ts: &'a [u8], ns: &'a [u8], cs: &'a [u8], out: &mut [u8]) -> W
     bind_writer::write_bind(t, n, c, out)
 }
 
-fn write(kind: u8, given: &[u8], out: &mut [u8]) -> Written {
+pub fn write_bind(given: &[u8], out: &mut [u8]) -> Written {
     let second = after_field(given);
-    match kind {
-        b't' => write_transform(field(given), out),
-        b'p' => write_position(field(given), out),
-        b'i' => image::write_image(header(field(given)), field(second), out),
-        _ => write_bind(field(given), field(second), field(after_field(second)), out),
-    }
+    write_lists(field(given), field(second), field(after_field(second)), out)
 }
 
-fn print_written(written: Written) {
-    print_number(written.number() as u64);
-    print_number(written.count() as u64);
-}
-
-fn print_out(kind: u8, given: &[u8], out: &mut [u8]) {
-    print_written(write(kind, given, &mut *out));
-    print_bytes(out);
-}
-
-pub fn print_short(kind: u8, out: &[u8], given: &[u8]) {
-    let mut buffer = [be8(out, 4); 4096];
-    let n = io::count(be32(out, 0) as isize, &buffer);
-    print_out(kind, given, &mut buffer[..n]);
-}
-
-// So many children that hold nothing.
-fn write_many(nothing: &[u8], count: usize, out: &mut [u8]) -> Written {
+fn write_empty(nothing: &[u8], count: usize, out: &mut [u8]) -> Written {
     let all = [nothing; 65536];
     bind_writer::write_bind(
         first_parts(&all, count),
@@ -159,28 +131,20 @@ fn write_many(nothing: &[u8], count: usize, out: &mut [u8]) -> Written {
     )
 }
 
-// One child, whose name is so many letters.
-fn write_named<'a>(nothing: &'a [u8], letters: &'a [u8], out: &mut [u8]) -> Written {
-    let names = [letters];
+// So many children that hold nothing.
+pub fn write_many(given: &[u8], out: &mut [u8]) -> Written {
+    write_empty(b"", be32(field(given), 0) as usize, out)
+}
+
+fn write_child<'a>(nothing: &'a [u8], name: &'a [u8], out: &mut [u8]) -> Written {
+    let names = [name];
     let others = [nothing];
     bind_writer::write_bind(&others, &names, &others, out)
 }
 
-fn write_long(kind: u8, n: usize, out: &mut [u8]) -> Written {
+// One child, whose name is so many letters.
+pub fn write_named(given: &[u8], out: &mut [u8]) -> Written {
     let letters = [b'A'; 131072];
-    if kind == b'n' {
-        return write_named(b"", fields::slice::first(&letters, n), out);
-    }
-    write_many(b"", n, out)
-}
-
-fn print_sum(kind: u8, n: usize, out: &mut [u8]) {
-    print_written(write_long(kind, n, &mut *out));
-    crate::crc::print_crc(out);
-}
-
-pub fn print_long(kind: u8, out: &[u8], given: &[u8]) {
-    let mut buffer = vector_records::buffer(be8(out, 4));
-    let n = io::count(be32(out, 0) as isize, &buffer);
-    print_sum(kind, be32(given, 0) as usize, &mut buffer[..n]);
+    let name = fields::slice::first(&letters, be32(field(given), 0) as usize);
+    write_child(b"", name, out)
 }

@@ -1,0 +1,42 @@
+// Lists what is answered of a stream of messages: reads up to 65,536 bytes of standard input, and prints a line for each answer from
+// the front on: its place, its number and its step, in decimal digits. It stops after the first step of 0.
+use libc::STDIN_FILENO;
+use libc::STDOUT_FILENO;
+use message::Answer;
+ghost use mathlib.Core.Path.{_≡_};
+ghost use lib.ListN.{drop};
+ghost use Rattle.message.specs.Check.{readOf};
+
+fn print_line(at: usize, answer: Answer) {
+    io::print_decimal(STDOUT_FILENO, at as u64);
+    io::write_all(STDOUT_FILENO, b" ");
+    io::print_decimal(STDOUT_FILENO, answer.number as u64);
+    io::write_all(STDOUT_FILENO, b" ");
+    io::print_decimal(STDOUT_FILENO, answer.step as u64);
+    io::write_all(STDOUT_FILENO, b"\n");
+}
+
+// Prints the answer at a place, and gives its step.
+fn list_at(stream: &[u8], at: usize) -> usize
+    ensures { λ r. ⌜ r ≡ readOf (drop at (now (stream .entry))) .step ⌝ }
+{
+    let answer = message::read(fields::slice::rest(stream, at));
+    print_line(at, answer);
+    answer.step
+}
+
+fn list(stream: &[u8]) {
+    let mut at = 0;
+    let mut step = list_at(stream, at);
+    while 0 < step {
+        at += step;
+        step = list_at(stream, at);
+    }
+}
+
+fn main() {
+    let mut buffer = io::large_buffer();
+    let n = io::read_full(STDIN_FILENO, &mut buffer);
+    io::write_all(STDOUT_FILENO, b"at answer step\n");
+    list(&buffer[..n]);
+}

@@ -1,0 +1,56 @@
+-- `vector_messages::streams::print_steps` is safe and ends. The loop's invariant: the step does not lead past the stream's end. The
+-- measure is the number of bytes that are left.
+use Prim.Native.Nat.{_+_, _-_, _≤_}
+use native.Mathlib.Omega.{arith}
+use lib.ListN.{length, drop, length-drop}
+use borrow.Author.Needs.{needs}
+use Rattle.message.proofs.Laws.Stream.{step-within}
+use Rattle.vector_messages.proofs.streams.print_steps.Statement.{statement}
+use Rattle.vector_messages.proofs.streams.print_steps.Tie as tie
+
+abbrev Inv-loop : tie.InvT-loop
+Inv-loop stream at₀ step₀ at step = at + step ≤ length stream
+
+abbrev μ-loop : tie.MeasureT-loop
+μ-loop stream at₀ step₀ at step = length stream - at
+
+print-at-requires : tie.Need-print-at-requires Inv-loop μ-loop
+print-at-requires c κs = search needs
+
+loop-holds : tie.Need-loop-holds Inv-loop μ-loop
+loop-holds c =
+    let stream = c .before .before .args .stream .now in
+    omega (arith, c .print-at .ensures, step-within (drop 0 stream), length-drop 0 stream)
+
+add-at : tie.Need-add-at Inv-loop μ-loop
+add-at c = search needs
+
+print-at-requires-2 : tie.Need-print-at-requires-2 Inv-loop μ-loop
+print-at-requires-2 c κs = search needs
+
+loop-less : tie.Need-loop-less Inv-loop μ-loop
+loop-less c = search needs
+
+loop-again : tie.Need-loop-again Inv-loop μ-loop
+loop-again c =
+    let l = c .before .before .loop in
+    let stream = c .before .before .before .before .before .args .stream .now in
+    let at = l .at + l .step in
+    omega (arith, c .print-at2 .ensures, step-within (drop at stream), length-drop at stream)
+
+returns : tie.Need-returns Inv-loop μ-loop
+returns c = search needs
+
+pub print-steps-spec : {M : Type 1} → statement M
+print-steps-spec =
+    tie.close
+    (tie.spec
+    Inv-loop
+    μ-loop
+    print-at-requires
+    loop-holds
+    add-at
+    print-at-requires-2
+    loop-less
+    loop-again
+    returns)

@@ -1,0 +1,26 @@
+// What the readers of headers answer:
+//
+//   H stream   the header's number and fields, its CRC as 16 hexadecimal digits; the type and the device name
+//   s stamp    the seconds and the nanoseconds of a time stamp of eight bytes
+use vector_records::print_bytes;
+use vector_records::print_crc;
+use vector_records::print_number;
+
+pub fn print_header(stream: &[u8]) {
+    let read = header::read_header(stream);
+    print_number(read.number as u64);
+    print_number(read.version as u64);
+    print_number(read.type_len as u64);
+    print_number(read.name_len as u64);
+    print_number(read.time_stamp);
+    print_number(read.body_size as u64);
+    print_crc(read.crc);
+    print_bytes(fields::slice::part(stream, 2, read.type_len));
+    print_bytes(fields::slice::part(stream, 14, read.name_len));
+}
+
+pub fn print_stamp(stamp: &[u8]) {
+    let time_stamp = fields::number::be64(stamp, 0);
+    print_number(header::time_stamp::seconds(time_stamp) as u64);
+    print_number(header::time_stamp::nanoseconds(time_stamp) as u64);
+}

@@ -1,0 +1,32 @@
+// What the reader answers from message to message:
+//
+//   S stream   the place, the number and the step of each answer from the front on, up to the first step of 0
+use message::Answer;
+use vector_records::print_number;
+ghost use mathlib.Core.Path.{_≡_};
+ghost use lib.ListN.{drop};
+ghost use Rattle.message.specs.Check.{readOf};
+
+fn print_answer(at: usize, answer: Answer) {
+    print_number(at as u64);
+    print_number(answer.number as u64);
+    print_number(answer.step as u64);
+}
+
+// Prints the answer at a place, and gives its step.
+fn print_at(stream: &[u8], at: usize) -> usize
+    ensures { λ r. ⌜ r ≡ readOf (drop at (now (stream .entry))) .step ⌝ }
+{
+    let answer = message::read(fields::slice::rest(stream, at));
+    print_answer(at, answer);
+    answer.step
+}
+
+pub fn print_steps(stream: &[u8]) {
+    let mut at = 0;
+    let mut step = print_at(stream, at);
+    while 0 < step {
+        at += step;
+        step = print_at(stream, at);
+    }
+}

@@ -1,0 +1,223 @@
+//! Sample messages: sound ones, ones by chance, and ones of which a field lies.
+
+use super::{metadata, trees};
+use crate::crc::crc;
+use crate::message::body::Body;
+use crate::message::Message;
+use crate::random::Random;
+use crate::text;
+
+/// What a message says, whether it can be sent or not.
+#[derive(Clone, Default)]
+pub struct Sample {
+    pub version: u16,
+    pub time_stamp: u64,
+    pub id: u32,
+    pub type_text: Vec<u8>,
+    pub device_name: Vec<u8>,
+    pub further: Vec<u8>,
+    pub content: Vec<u8>,
+    pub metadata: Vec<u8>,
+}
+
+impl Sample {
+    /// A POSITION with something in every section.
+    pub fn extended() -> Self {
+        Sample {
+            version: 2,
+            time_stamp: 0x0102_0304_8000_0001,
+            id: 0xA1B2_C3D4,
+            further: vec![1, 2, 255],
+            metadata: metadata::section(&[(b"A", b"one"), (b"Key", b"")]),
+            ..Sample::plain(b"POSITION", &[9; 12])
+        }
+    }
+
+    /// A message that is all content.
+    pub fn plain(type_text: &[u8], content: &[u8]) -> Self {
+        Sample {
+            version: 1,
+            type_text: type_text.to_vec(),
+            device_name: b"Arm".to_vec(),
+            content: content.to_vec(),
+            ..Sample::default()
+        }
+    }
+
+    /// One of the types of a BIND's children, sections of a few bytes each.
+    pub fn by_chance(random: &mut Random) -> Self {
+        let child = trees::child(random);
+        let names: [&[u8]; 4] = [b"", b"Arm", b"\x01\x7F", b"A name of 20 bytes!!"];
+        let content = child.content.encode();
+        let plain = Sample {
+            time_stamp: random.word(),
+            device_name: random.pick(&names).to_vec(),
+            ..Sample::plain(&child.type_text, &content)
+        };
+        if random.below(3) == 0 {
+            return plain;
+        }
+        let further_length = random.pick(&[0, 0, 1, 4, 9]);
+        Sample {
+            version: 2,
+            id: random.u32(),
+            further: random.bytes(further_length),
+            metadata: metadata::by_chance(random),
+            ..plain
+        }
+    }
+
+    pub fn with(&self, change: impl FnOnce(&mut Sample)) -> Self {
+        let mut sample = self.clone();
+        change(&mut sample);
+        sample
+    }
+
+    pub fn message(&self) -> Message<'_> {
+        Message {
+            version: self.version,
+            time_stamp: self.time_stamp,
+            type_text: &self.type_text,
+            device_name: &self.device_name,
+            body: Body {
+                id: self.id,
+                further: &self.further,
+                content: &self.content,
+                metadata: &self.metadata,
+            },
+        }
+    }
+
+    /// The bytes of the fields, sound or not as a message.
+    pub fn bytes(&self) -> Vec<u8> {
+        Fields::of(self).bytes()
+    }
+}
+
+/// The fields of a message as sent, so that each can be made to lie.
+#[derive(Clone)]
+pub struct Fields {
+    pub version: u16,
+    pub type_field: [u8; 12],
+    pub name_field: [u8; 20],
+    pub time_stamp: u64,
+    /// The true one where nothing is given, and so for the CRC.
+    pub body_size: Option<u64>,
+    pub crc: Option<u64>,
+    pub extended_size: u16,
+    pub metadata_size: u16,
+    pub id: u32,
+    pub reserved: u32,
+    pub further: Vec<u8>,
+    pub content: Vec<u8>,
+    pub metadata: Vec<u8>,
+}
+
+impl Fields {
+    pub fn of(sample: &Sample) -> Self {
+        let size = |bytes: &[u8]| u16::try_from(bytes.len()).expect("a short section");
+        Fields {
+            version: sample.version,
+            type_field: text::field(&sample.type_text).expect("a type"),
+            name_field: text::field(&sample.device_name).expect("a device name"),
+            time_stamp: sample.time_stamp,
+            body_size: None,
+            crc: None,
+            extended_size: 12 + size(&sample.further),
+            metadata_size: size(&sample.metadata),
+            id: sample.id,
+            reserved: 0,
+            further: sample.further.clone(),
+            content: sample.content.clone(),
+            metadata: sample.metadata.clone(),
+        }
+    }
+
+    /// The content alone with version 1, all sections with every other one.
+    fn body(&self) -> Vec<u8> {
+        if self.version == 1 {
+            return self.content.clone();
+        }
+        let sizes = [self.extended_size, self.metadata_size].map(u16::to_be_bytes);
+        let words = [self.id, self.reserved].map(u32::to_be_bytes);
+        let front = [sizes.concat(), words.concat()].concat();
+        [&front[..], &self.further, &self.content, &self.metadata].concat()
+    }
+
+    pub fn bytes(&self) -> Vec<u8> {
+        let body = self.body();
+        let numbers = [
+            self.time_stamp,
+            self.body_size.unwrap_or(body.len() as u64),
+            self.crc.unwrap_or(crc(&body)),
+        ];
+        [
+            &self.version.to_be_bytes()[..],
+            &self.type_field,
+            &self.name_field,
+            &numbers.map(u64::to_be_bytes).concat(),
+            &body,
+        ]
+        .concat()
+    }
+}
+
+/// The sample after each of some changes of its fields.
+pub fn lies<const N: usize>(sample: &Sample, changes: [fn(&mut Fields); N]) -> Vec<Vec<u8>> {
+    let streams = changes.map(|change| {
+        let mut fields = Fields::of(sample);
+        change(&mut fields);
+        fields.bytes()
+    });
+    streams.to_vec()
+}
+
+/// The stream with the byte at a place made another.
+pub fn set(stream: &[u8], place: usize, value: u8) -> Vec<u8> {
+    let mut stream = stream.to_vec();
+    stream[place] = value;
+    stream
+}
+
+/// The stream with the CRC of all that follows the header.
+pub fn mended(mut stream: Vec<u8>) -> Vec<u8> {
+    let crc = crc(&stream[58..]).to_be_bytes();
+    stream[50..58].copy_from_slice(&crc);
+    stream
+}
+
+#[cfg(test)]
+mod tests {
+    use super::{mended, Sample};
+    use crate::fault::{number, Fault};
+    use crate::message::read;
+    use crate::random::Random;
+
+    #[test]
+    fn the_fields_are_those_of_the_message() {
+        let samples = [Sample::extended(), Sample::plain(b"STATUS", b"content")];
+        for sample in samples {
+            assert_eq!(sample.message().encode(), Ok(sample.bytes()));
+            assert_eq!(mended(sample.bytes()), sample.bytes());
+            assert_eq!(read(&sample.bytes()).message, Ok(sample.message()));
+        }
+    }
+
+    #[test]
+    fn a_message_by_chance_is_answered_alike_by_reader_and_writer() {
+        let mut random = Random::new(7);
+        let mut seen = Vec::new();
+        for _ in 0..500 {
+            let sample = Sample::by_chance(&mut random);
+            let written = sample.message().encode();
+            seen.push(number(&written));
+            assert_eq!(
+                read(&sample.bytes()).message,
+                written.map(|_| sample.message())
+            );
+        }
+        let contents = [Fault::Length, Fault::Image, Fault::Bind, Fault::Depth];
+        assert!(seen.contains(&0));
+        assert!(contents.iter().all(|&fault| seen.contains(&(fault as u8))));
+    }
+}
