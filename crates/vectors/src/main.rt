@@ -10,6 +10,7 @@ use vector_messages::headers;
 use vector_messages::messages;
 use vector_messages::streams;
 use vector_messages::values;
+use vector_messages::writers;
 use vector_records::after_field;
 use vector_records::field;
 
@@ -35,10 +36,10 @@ fn print_answer(record: &[u8]) {
         b'R' => messages::print_message(field(first)),
         b'Q' => messages::print_patched(field(first), field(second)),
         b'S' => streams::print_steps(field(first)),
-        b't' | b'p' | b'i' | b'b' | b'h' | b'w' => {
-            vector_writers::print_short(kind, field(first), second)
-        }
-        b'n' | b'm' | b'W' => vector_writers::print_long(kind, field(first), second),
+        b'h' | b'w' => writers::print_short(kind, field(first), second),
+        b'W' => writers::print_long(field(first), second),
+        b't' | b'p' | b'i' | b'b' => vector_writers::print_short(kind, field(first), second),
+        b'n' | b'm' => vector_writers::print_long(kind, field(first), second),
         _ => {}
     }
     vector_records::end_line();

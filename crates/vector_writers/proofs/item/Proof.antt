@@ -1,7 +1,7 @@
--- `vector_contents::item` is safe and ends. The measure is the number of fields that are left out.
+-- `vector_writers::item` is safe and ends. The measure is the number of fields that are left out.
 use borrow.Author.Needs.{needs}
-use Rattle.vector_contents.proofs.item.Statement.{statement}
-use Rattle.vector_contents.proofs.item.Tie as tie
+use Rattle.vector_writers.proofs.item.Statement.{statement}
+use Rattle.vector_writers.proofs.item.Tie as tie
 
 abbrev Inv-loop : tie.InvT-loop
 Inv-loop list i left₀ k₀ left k = Unit {0}

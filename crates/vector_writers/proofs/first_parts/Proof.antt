@@ -1,9 +1,9 @@
--- `vector_contents::first_parts` is safe.
+-- `vector_writers::first_parts` is safe.
 use mathlib.Core.Path.{sym}
 use lib.Seq.{length-take-le}
 use borrow.Author.Needs.{needs}
-use Rattle.vector_contents.proofs.first_parts.Statement.{statement}
-use Rattle.vector_contents.proofs.first_parts.Tie as tie
+use Rattle.vector_writers.proofs.first_parts.Statement.{statement}
+use Rattle.vector_writers.proofs.first_parts.Tie as tie
 
 slice-aggregate-result : tie.Need-slice-aggregate-result
 slice-aggregate-result c = sym (length-take-le (c .before .before .args .n) (c .before .before .args .parts .now) (c .before .if1 .taken))

@@ -1,9 +1,9 @@
--- `vector_contents::first_words` is safe.
+-- `vector_writers::first_words` is safe.
 use mathlib.Core.Path.{sym}
 use lib.Seq.{length-take-le}
 use borrow.Author.Needs.{needs}
-use Rattle.vector_contents.proofs.first_words.Statement.{statement}
-use Rattle.vector_contents.proofs.first_words.Tie as tie
+use Rattle.vector_writers.proofs.first_words.Statement.{statement}
+use Rattle.vector_writers.proofs.first_words.Tie as tie
 
 slice-aggregate-result : tie.Need-slice-aggregate-result
 slice-aggregate-result c = sym (length-take-le (c .before .before .args .n) (c .before .before .args .words .now) (c .before .if1 .taken))
