@@ -48,15 +48,36 @@ fn fixed_fields(s: &[u8]) -> FixedFields {
     }
 }
 
-fn write_message(given: &[u8], out: &mut [u8]) -> Written {
+// Writes the message that a record gives, with these sections.
+fn write_sections(
+    given: &[u8],
+    further: &[u8],
+    content: &[u8],
+    metadata: &[u8],
+    out: &mut [u8],
+) -> Written {
     let type_text = after_field(given);
-    let device_name = after_field(type_text);
-    let further = after_field(device_name);
-    let content = after_field(further);
     message::write(
         fixed_fields(field(given)),
         field(type_text),
-        field(device_name),
+        field(after_field(type_text)),
+        further,
+        content,
+        metadata,
+        out,
+    )
+}
+
+// The fields after fixed, type and name.
+fn after_texts(given: &[u8]) -> &[u8] {
+    after_field(after_field(after_field(given)))
+}
+
+fn write_message(given: &[u8], out: &mut [u8]) -> Written {
+    let further = after_texts(given);
+    let content = after_field(further);
+    write_sections(
+        given,
         field(further),
         field(content),
         field(after_field(content)),
@@ -72,19 +93,10 @@ fn zeros_given<'a>(zeros: &'a [u8], given: &[u8]) -> &'a [u8] {
 // The sections are zeros.
 fn write_zeros(given: &[u8], out: &mut [u8]) -> Written {
     let zeros = vector_records::buffer(0);
-    let type_text = after_field(given);
-    let device_name = after_field(type_text);
-    let further = after_field(device_name);
-    let content = after_field(further);
-    message::write(
-        fixed_fields(field(given)),
-        field(type_text),
-        field(device_name),
-        zeros_given(&zeros, further),
-        zeros_given(&zeros, content),
-        zeros_given(&zeros, after_field(content)),
-        out,
-    )
+    let further = zeros_given(&zeros, after_texts(given));
+    let content = zeros_given(&zeros, after_field(after_texts(given)));
+    let metadata = zeros_given(&zeros, after_field(after_field(after_texts(given))));
+    write_sections(given, further, content, metadata, out)
 }
 
 fn write_short(kind: u8, given: &[u8], out: &mut [u8]) -> Written {
