@@ -43,7 +43,7 @@ fn is_extended(body: &[u8]) -> bool
 }
 
 // Document 01's number for the layout of a body: 6, or 0 for none.
-pub fn body_number(version: u16, body: &[u8]) -> u8
+pub(crate) fn body_number(version: u16, body: &[u8]) -> u8
     ensures { λ r. ⌜ r ≡ bodyFault version (now (body .entry)) ⌝ }
 {
     if version != 2 {
@@ -56,7 +56,7 @@ pub fn body_number(version: u16, body: &[u8]) -> u8
 }
 
 // Where the sections of a body without fault stand.
-pub fn sections(version: u16, body: &[u8]) -> Places
+pub(crate) fn sections(version: u16, body: &[u8]) -> Places
     requires { ⌜ bodyFault version (now body) ≡ 0 ⌝ }
     ensures { λ r. ⌜ r ≡ placesOf version (now (body .entry)) ⌝ }
 {
@@ -86,7 +86,7 @@ pub fn sections(version: u16, body: &[u8]) -> Places
 }
 
 // Do sections of these lengths keep the limit? Each length is compared first, so that their sum does not wrap.
-pub fn within_limit(version: u16, further: usize, content: usize, metadata: usize) -> bool
+pub(crate) fn within_limit(version: u16, further: usize, content: usize, metadata: usize) -> bool
     ensures { λ r. ⌜ r ≡ leb (bodyLength version further content metadata) limit ⌝ }
 {
     if 16777216 < content {
@@ -105,7 +105,7 @@ pub fn within_limit(version: u16, further: usize, content: usize, metadata: usiz
 }
 
 // The body's length, for sections that keep the limit.
-pub fn body_len(version: u16, further: usize, content: usize, metadata: usize) -> usize
+pub(crate) fn body_len(version: u16, further: usize, content: usize, metadata: usize) -> usize
     requires { ⌜ bodyLength version further content metadata ≤ limit ⌝ }
     ensures { λ r. ⌜ r ≡ bodyLength version further content metadata ⌝ }
 {
@@ -116,7 +116,7 @@ pub fn body_len(version: u16, further: usize, content: usize, metadata: usize) -
 }
 
 // Check 6 of a writer: can a body of this version have such sections?
-pub fn is_fit(version: u16, id: u32, further: usize, metadata: usize) -> bool
+pub(crate) fn is_fit(version: u16, id: u32, further: usize, metadata: usize) -> bool
     ensures { λ r. ⌜ r ≡ fits version id further metadata ⌝ }
 {
     if version == 2 {
@@ -151,7 +151,7 @@ fn put_extended(id: u32, further: &[u8], content: &[u8], metadata: &[u8], out: &
 }
 
 // Writes a body to the front of a buffer.
-pub fn put_body(
+pub(crate) fn put_body(
     version: u16,
     id: u32,
     further: &[u8],
