@@ -2,13 +2,16 @@
 use Prim.Native.Nat.{ℕ, _+_, _^_, _<_, _≤_}
 use mathlib.Core.Path.{_≡_, refl, ap, _∙_}
 use mathlib.Core.Logic.{inl, inr}
+use mathlib.Core.Bool.{true}
 use mathlib.Core.List.{List, [], _++_, append-assoc, append-nil}
 use native.Mathlib.Omega.{arith}
 use lib.ListN.{length}
 use Rattle.fields.specs.Bytes.{Bytes}
 use Rattle.fields.specs.Numbers.{beBytes}
-use Rattle.fields.specs.Text.{Text}
+use Rattle.fields.specs.Lists.{all}
+use Rattle.fields.specs.Text.{isText, Text}
 use Rattle.fields.proofs.Laws.Bytes.{bytes-nil}
+use Rattle.fields.proofs.Laws.Text.{is-text}
 use Rattle.crc64.specs.Crc.{crcOf}
 use Rattle.crc64.proofs.Laws.{crc-lt}
 use Rattle.header.specs.Header.{Header, encodeHeader}
@@ -48,6 +51,10 @@ opaque =
       no-bind = λ e. let z : _≡_ {A = ℕ} 71 66 = cc in omega arith;
     }
 
+status-text : isText getStatusText ≡ true
+unfolding isText all
+status-text = refl
+
 status-body : (n : List ℕ) (stamp id : ℕ) → bodyOf (partsOf (status n stamp id)) ≡ body12 id
 unfolding status encodeBody encodeMetadata tree.encode beBytes
 status-body n stamp id = refl
@@ -61,7 +68,7 @@ status-begins n stamp id t l s i =
           record {
             texts =
                 record {
-                  type-text = ((omega arith, omega arith), ((omega arith, omega arith), ((omega arith, omega arith), ((omega arith, omega arith), ((omega arith, omega arith), ((omega arith, omega arith), ((omega arith, omega arith), ((omega arith, omega arith), ((omega arith, omega arith), ((omega arith, omega arith), tt))))))))));
+                  type-text = is-text getStatusText status-text;
                   type-fits = omega arith;
                   name-text = t;
                   name-fits = l;

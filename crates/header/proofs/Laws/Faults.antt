@@ -109,9 +109,6 @@ fault-passed s h =
       size-limit = limit-passed (headerOf s .bodySize) (l .1);
     }
 
-pub header-long : (s : List ℕ) → headerFault s ≡ 0 → 58 ≤ length s
-header-long s h = fault-passed s h .long
-
 -- the fault of a stream that is too short, and of one that is long enough
 pub fault-short : (s : List ℕ) → length s < 58 → headerFault s ≡ 1
 unfolding headerFault

@@ -9,9 +9,9 @@ use Rattle.fields.specs.Bytes.{Bytes, part}
 use Rattle.fields.specs.Numbers.{beVal, beBytes, beAt}
 use Rattle.fields.specs.Text.{textOf, fieldOk, textBytes}
 use Rattle.fields.specs.Layout.{join, cut, Widths, stores}
-use Rattle.fields.proofs.Laws.Numbers.{length-beBytes, bytes-beBytes, beVal-beBytes, beAt-lt, beBytes-beAt}
-use Rattle.fields.proofs.Laws.Text.{length-textBytes, bytes-textBytes, textOf-textBytes, fieldOk-textBytes, field-halves, text-ok, text-take, textBytes-part, length-textOf-part}
-use Rattle.fields.proofs.Laws.Layout.{length-join, bytes-join, join-cut, cut-join}
+use Rattle.fields.proofs.Laws.Numbers.{length-beBytes, beVal-beBytes, beAt-lt, beBytes-beAt}
+use Rattle.fields.proofs.Laws.Text.{length-textBytes, textOf-textBytes, fieldOk-textBytes, field-halves, text-ok, text-take, textBytes-part, length-textOf-part}
+use Rattle.fields.proofs.Laws.Layout.{length-join, join-cut, cut-join}
 use Rattle.fields.proofs.Laws.Stores.{stores-join}
 use Rattle.header.specs.Header.{Header, headerWidths, headerFields, encodeHeader, WellTexts, HeaderFits, WellHeader}
 use Rattle.header.specs.Check.{headerOf, limitFault, headerFault}
@@ -34,20 +34,6 @@ header-widths h = (
 pub length-header : (h : Header) → length (encodeHeader h) ≡ 58
 unfolding encodeHeader
 length-header h = length-join (headerFields h) headerWidths (header-widths h)
-
-pub bytes-header : (h : Header) → WellTexts (h .typeText) (h .deviceName) → Bytes (encodeHeader h)
-unfolding encodeHeader
-bytes-header h w =
-    bytes-join (headerFields h) (
-      bytes-beBytes 2 (h .version),
-      (
-        bytes-textBytes 12 (h .typeText) (w .type-text),
-        (
-          bytes-textBytes 20 (h .deviceName) (w .name-text),
-          (bytes-beBytes 8 (h .timeStamp), (bytes-beBytes 8 (h .bodySize), (bytes-beBytes 8 (h .crc), tt))),
-        ),
-      ),
-    )
 
 -- the stores of the fields are one store
 pub stores-header : (h : Header) (out : List ℕ) → stores out 0 (headerFields h) headerWidths ≡ sets out 0 (encodeHeader h)

@@ -35,12 +35,9 @@ use Rattle.header.proofs.Laws.Faults.{names-pass, names-broken, limit-pass}
 use Rattle.header.proofs.Laws.Headers.{headers}
 use Rattle.metadata.proofs.Laws.Metadatas.{metadatas}
 use Rattle.message.proofs.Laws.Body.{body-well, body-read, extended-refused}
-use Rattle.message.proofs.Laws.Stream.{whole-refused, version-pass, version-passed, version-refused, checks-version, checks-crc, checks-body, checks-rest, whole-header, whole-body, whole-front, read-number}
+use Rattle.message.proofs.Laws.Stream.{is-some, whole-refused, version-pass, version-passed, version-refused, checks-version, checks-crc, checks-body, checks-rest, whole-header, whole-body, whole-front, read-number}
 use Rattle.message.proofs.Laws.Read.{front-refused, header-refused, header-fault, body-refused}
 use Rattle.message.proofs.Laws.Writer.{plain-pass, plain-passed, sizes-passed, fit-passed, well-fit, sections-version, sections-unfit, sections-rest, write-names, write-texts, write-limit, write-rest, parts-number, checks-sections}
-
-is-some : (a n : ℕ) → a ≡ suc n → a ≡ 0 → ⊥
-is-some a n e z = omega arith
 
 -- ---- a refusal before a step is known
 

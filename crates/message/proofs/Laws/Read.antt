@@ -13,7 +13,7 @@ use Rattle.header.specs.Check as header
 use Rattle.header.specs.Check.{headerOf, headerFault, headerRead}
 use Rattle.header.proofs.Laws.Faults.{fault-passed, header-read-passed, header-read-refused}
 use Rattle.message.specs.Check.{versionFault, crcFault, bodyFault, bodyChecks, bodyAt, frontFault, numberOf, placesOf, refused, accepted, readOf}
-use Rattle.message.proofs.Laws.Stream.{whole-pass, whole-refused, read-accepted, read-refused, step-whole, step-none}
+use Rattle.message.proofs.Laws.Stream.{is-some, whole-pass, whole-refused, read-accepted, read-refused, step-whole, step-none}
 
 -- a refusal before a step is known
 pub front-refused : (s : List ℕ) → (frontFault s ≡ 0 → ⊥) → readOf s ≡ refused (frontFault s) 0
@@ -34,7 +34,7 @@ header-fault s = go (headerFault s) refl
   where
     go : (n : ℕ) → headerFault s ≡ n → headerRead s .number ≡ headerFault s
     go zero e = ap (λ (r : HeaderRead). r .number) (header-read-passed s e) ∙ sym e
-    go (suc n) e = ap (λ (r : HeaderRead). r .number) (header-read-refused s (λ z. let k : _≡_ {A = ℕ} (suc n) 0 = sym e ∙ z in omega arith))
+    go (suc n) e = ap (λ (r : HeaderRead). r .number) (header-read-refused s (is-some (headerFault s) n e))
 
 -- a refusal once the whole is there
 pub body-refused : (s : List ℕ) → frontFault s ≡ 0 → (n : ℕ) → n ≡ bodyChecks (headerOf s .version) (headerOf s .crc) (headerOf s .typeText) (bodyAt s) → (n ≡ 0 → ⊥)
@@ -66,7 +66,7 @@ module _ (s : List ℕ) (r : HeaderRead) (e : r ≡ headerRead s) where
   unfolding frontFault
   says-short z h =
       let k : frontFault s ≡ 1 = else-second (headerFault s) _ (no-fault z) ∙ whole-refused s (omega (arith, read-size z)) in
-      sym (front-refused s (λ y. let n : _≡_ {A = ℕ} 1 0 = sym k ∙ y in omega arith) ∙ ap (λ (n : ℕ). refused n 0) k)
+      sym (front-refused s (is-some (frontFault s) 0 k) ∙ ap (λ (n : ℕ). refused n 0) k)
 
   whole-there : r .number ≡ 0 → 58 + r .«body_size» ≤ length s → frontFault s ≡ 0
   unfolding frontFault

@@ -27,6 +27,10 @@ use Rattle.message.specs.Bodies.{IsVersion}
 use Rattle.header.proofs.Laws.Layout.{length-header, header-read, header-number, header-back, type-part, name-part}
 use Rattle.message.proofs.Laws.Body.{Passed, passed-2, places-1, places-2, body-back}
 
+-- a number that is some fault's is not 0
+pub is-some : (a n : ℕ) → a ≡ suc n → a ≡ 0 → ⊥
+is-some a n e z = omega arith
+
 -- ---- single checks
 
 pub whole-pass : (s : List ℕ) → 58 + headerOf s .bodySize ≤ length s → wholeFault s ≡ 0
@@ -79,7 +83,7 @@ module _ (v crc : ℕ) (t b : List ℕ) where
   unfolding bodyChecks
   checks-crc e h =
       let k : crcFault crc b ≡ 5 = crc-refused crc b h in
-      sym (else-second (versionFault v) _ e ∙ else-first (crcFault crc b) _ (λ z. let y : _≡_ {A = ℕ} 5 0 = sym k ∙ z in omega arith) ∙ k)
+      sym (else-second (versionFault v) _ e ∙ else-first (crcFault crc b) _ (is-some (crcFault crc b) 4 k) ∙ k)
 
   pub checks-sound : versionFault v ≡ 0 → crcOf b ≡ crc → bodyChecks v crc t b ≡ orElse (bodyFault v b) (sectionsFault t (sectionsOf v b))
   unfolding bodyChecks
@@ -179,7 +183,7 @@ read-number s = go (numberOf s) refl
   where
     go : (n : ℕ) → numberOf s ≡ n → readOf s .number ≡ numberOf s
     go zero e = ap (λ (a : Answer). a .number) (read-accepted s e) ∙ sym e
-    go (suc n) e = ap (λ (a : Answer). a .number) (read-refused s (λ z. let k : _≡_ {A = ℕ} (suc n) 0 = sym e ∙ z in omega arith))
+    go (suc n) e = ap (λ (a : Answer). a .number) (read-refused s (is-some (numberOf s) n e))
 
 pub number-read : (s : List ℕ) → readOf s .number ≡ 0 → numberOf s ≡ 0
 number-read s h = sym (read-number s) ∙ h
@@ -197,7 +201,7 @@ read-step s = go (numberOf s) refl
   where
     go : (n : ℕ) → numberOf s ≡ n → readOf s .step ≡ stepOf s
     go zero e = ap (λ (a : Answer). a .step) (read-accepted s e) ∙ sym (step-whole s (front-passed s e))
-    go (suc n) e = ap (λ (a : Answer). a .step) (read-refused s (λ z. let k : _≡_ {A = ℕ} (suc n) 0 = sym e ∙ z in omega arith))
+    go (suc n) e = ap (λ (a : Answer). a .step) (read-refused s (is-some (numberOf s) n e))
 
 -- the step never leads past the stream's end
 pub step-within : (s : List ℕ) → readOf s .step ≤ length s
@@ -205,7 +209,7 @@ step-within s = go (frontFault s) refl
   where
     go : (n : ℕ) → frontFault s ≡ n → readOf s .step ≤ length s
     go zero e = omega (arith, read-step s, step-whole s e, front-whole s e)
-    go (suc n) e = omega (arith, read-step s, step-none s (λ z. let k : _≡_ {A = ℕ} (suc n) 0 = sym e ∙ z in omega arith))
+    go (suc n) e = omega (arith, read-step s, step-none s (is-some (frontFault s) n e))
 
 -- ---- what the answer hands out
 

@@ -27,10 +27,10 @@ use Rattle.message.specs.Check.{versionFault, sectionsFault, bodyChecks,
 use Rattle.message.specs.Writer.{bodyLength, fits, fitOk, fitFault, sectionsChecks, writeChecks, writeFault, messageWritten, messageOut}
 use Rattle.message.specs.Bodies.{IsVersion}
 use Rattle.header.proofs.Laws.Layout.{length-header}
-use Rattle.header.proofs.Laws.Writer.{out-header}
+use Rattle.header.proofs.Laws.Writer.{write-room, out-header}
 use Rattle.header.proofs.Laws.Faults.{limit-pass, limit-passed, limit-refused}
 use Rattle.message.proofs.Laws.Body.{body-well, body-read, length-1, length-2}
-use Rattle.message.proofs.Laws.Stream.{version-pass, checks-rest, whole-number}
+use Rattle.message.proofs.Laws.Stream.{is-some, version-pass, checks-rest, whole-number}
 
 -- ---- check 6
 
@@ -156,7 +156,7 @@ module _ (v : ℕ) (t : List ℕ) (x : Sections) where
   unfolding sectionsChecks
   sections-unfit e h =
       let k : fitFault v x ≡ 6 = fit-refused v x h in
-      sym (else-second (versionFault v) _ e ∙ else-first (fitFault v x) _ (λ z. let y : _≡_ {A = ℕ} 6 0 = sym k ∙ z in omega arith) ∙ k)
+      sym (else-second (versionFault v) _ e ∙ else-first (fitFault v x) _ (is-some (fitFault v x) 5 k) ∙ k)
 
   pub sections-rest : versionFault v ≡ 0 → fitOk v x ≡ true → sectionsFault t x ≡ sectionsChecks v t x
   unfolding sectionsChecks
@@ -182,7 +182,7 @@ module _ (p : Parts) where
   pub write-limit : namesFault (p .typeText) (p .deviceName) ≡ 0 → limit < length (bodyOf p) → 3 ≡ writeChecks p
   write-limit e h =
       let k : limitFault (length (bodyOf p)) ≡ 3 = limit-refused (length (bodyOf p)) h in
-      sym (write-texts e ∙ else-first (limitFault (length (bodyOf p))) _ (λ z. let y : _≡_ {A = ℕ} 3 0 = sym k ∙ z in omega arith) ∙ k)
+      sym (write-texts e ∙ else-first (limitFault (length (bodyOf p))) _ (is-some (limitFault (length (bodyOf p))) 2 k) ∙ k)
 
   pub write-rest : namesFault (p .typeText) (p .deviceName) ≡ 0 → length (bodyOf p) ≤ limit
       → sectionsChecks (p .version) (p .typeText) (p .sections) ≡ writeChecks p
@@ -237,10 +237,8 @@ checks-sections p w =
 
 -- the header's writer passes it too
 header-writes : (p : Parts) → Writable p → (room : ℕ) → 58 ≤ room → header.writeFault (headerFor p) room ≡ 0
-unfolding header.writeFault
 header-writes p w room h =
-    else-zero (namesFault (p .typeText) (p .deviceName)) _ (w .names)
-    (else-zero (limitFault (length (bodyOf p))) _ (limit-pass (length (bodyOf p)) (w .short)) (room-enough 58 room h))
+    write-room (headerFor p) room (w .names) (limit-pass (length (bodyOf p)) (w .short)) ∙ room-enough 58 room h
 
 -- ---- the buffer, once the body is stored from 58 on and then the header
 

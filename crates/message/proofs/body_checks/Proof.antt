@@ -8,7 +8,7 @@ use Rattle.fields.specs.Checks.{orElse}
 use Rattle.metadata.specs.Check.{metadataFault}
 use Rattle.content.specs.Check.{contentFault, deepest}
 use Rattle.message.specs.declared.body.Places.{Places}
-use Rattle.message.specs.Check.{bodyChecks, sectionsFault}
+use Rattle.message.specs.Check.{sectionsFault}
 use Rattle.message.proofs.Laws.Stream.{checks-version, checks-crc, checks-body, checks-rest}
 use Rattle.message.proofs.body_checks.Statement.{statement}
 use Rattle.message.proofs.body_checks.Tie as tie
@@ -17,7 +17,6 @@ version-number-requires : tie.Need-version-number-requires
 version-number-requires c κs = search needs
 
 returns : tie.Need-returns
-unfolding bodyChecks
 returns c = checks-version _ _ _ _ _ (c .before .version-number .ensures) (c .if1 .taken)
 
 crc64-requires : tie.Need-crc64-requires

@@ -3,27 +3,21 @@ use Prim.Native.Nat.{ℕ}
 use mathlib.Core.Path.{_≡_, refl, sym, ap, _∙_}
 use mathlib.Core.Logic.{_⊎_, inl, inr, ⊎-elim}
 use mathlib.Core.Bool.{Bool, true, cond}
-use mathlib.Core.List.{List, [], _∷_, _++_}
+use mathlib.Core.List.{List, [], _∷_}
 use native.Mathlib.Omega.{arith}
 use lib.Dec.{eqb}
 use lib.ListN.{length}
 use borrow.Author.Tests.{ne-eqb}
 use Rattle.fields.specs.Bytes.{Bytes}
-use Rattle.fields.specs.Lists.{Each, flat}
-use Rattle.fields.specs.Numbers.{beBytes}
-use Rattle.fields.proofs.Laws.Bytes.{bytes-nil, bytes-append}
 use Rattle.fields.proofs.Laws.Checks.{cond-pass, cond-refused}
-use Rattle.fields.proofs.Laws.Layout.{bytes-join, bytes-numbers}
-use Rattle.fields.proofs.Laws.Numbers.{bytes-beBytes}
-use Rattle.fields.proofs.Laws.Text.{bytes-text}
-use Rattle.metadata.specs.Metadata.{Entry, Metadata, absent, section, entryHeader, entryData, encodeMetadata, WellEntry, WellMetadata}
+use Rattle.metadata.specs.Metadata.{Entry, Metadata, absent, section, encodeMetadata, WellMetadata}
 use Rattle.metadata.specs.Check.{count, headersOf, dataOf, sectionOk, metadataFault}
 use Rattle.metadata.specs.Metadatas.{IsMetadata, Metadatas}
-use Rattle.metadata.proofs.Laws.Entries.{entriesFrom, headerWidths, headerFields}
+use Rattle.metadata.proofs.Laws.Entries.{entriesFrom}
 use Rattle.metadata.proofs.Laws.Written.{length-written, section-written, entries-back}
 use Rattle.metadata.proofs.Laws.Read.{section-read, section-well}
 
-pub metadata-absent : metadataFault [] ≡ 0
+metadata-absent : metadataFault [] ≡ 0
 unfolding metadataFault
 metadata-absent = refl
 
@@ -87,26 +81,3 @@ metadatas =
       well-accepted = metadata-well;
       unique = metadata-unique;
     }
-
--- ---- what is written is bytes
-
-bytes-header : (e : Entry) → Bytes (entryHeader e)
-unfolding entryHeader
-bytes-header e =
-    bytes-join (headerFields e) (bytes-numbers headerWidths (length (e .key) ∷ e .encoding ∷ length (e .value) ∷ []))
-
-bytes-data : (e : Entry) → WellEntry e → Bytes (entryData e)
-unfolding entryData
-bytes-data e w = bytes-append (e .key) (e .value) (bytes-text (e .key) (w .key-text)) (w .value-bytes)
-
-bytes-flat : (f : Entry → List ℕ) → ((e : Entry) → WellEntry e → Bytes (f e)) → (es : List Entry) → Each WellEntry es → Bytes (flat f es)
-unfolding flat
-bytes-flat f b [] w = bytes-nil
-bytes-flat f b (e ∷ es) w = bytes-append (f e) (flat f es) (b e (w .0)) (bytes-flat f b es (w .1))
-
-pub bytes-metadata : (m : Metadata) → WellMetadata m → Bytes (encodeMetadata m)
-unfolding WellMetadata encodeMetadata
-bytes-metadata absent w = bytes-nil
-bytes-metadata (section es) w =
-    bytes-append (beBytes 2 (length es)) (flat entryHeader es ++ flat entryData es) (bytes-beBytes 2 (length es))
-    (bytes-append (flat entryHeader es) (flat entryData es) (bytes-flat entryHeader (λ e v. bytes-header e) es (w .1)) (bytes-flat entryData bytes-data es (w .1)))
