@@ -1,12 +1,17 @@
 -- Lists of any elements: a test or a rule at each of them, and the bytes that they are written as.
 use Prim.Native.Nat.{ℕ}
-use mathlib.Core.Bool.{Bool, true, _&&_}
+use mathlib.Core.Bool.{Bool, true, false, _&&_, _||_}
 use mathlib.Core.List.{List, [], _∷_, _++_}
 
 -- does every element pass the test p?
 unfoldable pub all : {A : Type 0} → (A → Bool) → List A → Bool
 all p [] = true
 all p (x ∷ xs) = p x && all p xs
+
+-- does some element pass it?
+unfoldable pub any : {A : Type 0} → (A → Bool) → List A → Bool
+any p [] = false
+any p (x ∷ xs) = p x || any p xs
 
 -- P holds of every element
 abbrev pub Each : {A : Type 0} → (A → Type 0) → List A → Type 0

@@ -7,7 +7,7 @@ use native.Mathlib.Omega.{arith}
 use native.Mathlib.Numerals.{add-one}
 use lib.ListN.{length, getD, take, drop, length-append, take-append-drop, drop-of-length-le}
 use lib.Seq.{take-suc, take-all, drop-cons}
-use Rattle.fields.specs.Lists.{all, Each, flat}
+use Rattle.fields.specs.Lists.{all, any, Each, flat}
 use Rattle.fields.proofs.Laws.Checks.{and-split, and-join}
 
 -- ---- a test at each element, as a loop makes it: what it is from place i on
@@ -24,6 +24,18 @@ module _ {A : Type 0} (p : A → Bool) where
   pub all-end : (xs : List A) (i : ℕ) → length xs ≤ i → all p (drop i xs) ≡ true
   unfolding all
   all-end xs i h = rw (drop-of-length-le xs h) refl
+
+  pub any-step : (xs : List A) (i : ℕ) (d : A) → i < length xs → p (getD xs i d) ≡ false → any p (drop i xs) ≡ any p (drop (i + 1) xs)
+  unfolding any
+  any-step xs i d h e = rw (add-one i, drop-cons xs i d h, e) refl
+
+  pub any-stop : (xs : List A) (i : ℕ) (d : A) → i < length xs → p (getD xs i d) ≡ true → any p (drop i xs) ≡ true
+  unfolding any
+  any-stop xs i d h e = rw (drop-cons xs i d h, e) refl
+
+  pub any-end : (xs : List A) (i : ℕ) → length xs ≤ i → any p (drop i xs) ≡ false
+  unfolding any
+  any-end xs i h = rw (drop-of-length-le xs h) refl
 
 -- ---- a test and the rule that it tests
 

@@ -1,0 +1,112 @@
+-- The words of demand 3, said of a sequence of calls. A call's place is its number in the sequence, from 0; the book that it meets is that
+-- of the calls before it.
+use Prim.Native.Nat.{ℕ, _-_, _<_, _≤_}
+use mathlib.Core.Path.{_≡_}
+use mathlib.Core.Logic.{_⊎_, _↔_}
+use mathlib.Core.Bool.{true}
+use mathlib.Core.List.{List}
+use mathlib.Core.Option.{Option, none, some}
+use lib.ListN.{length, take, getD}
+use Rattle.content.specs.Tree as tree
+use Rattle.message.specs.Message.{Message, WellFormed, encode}
+use Rattle.history.specs.Calls.{Call, add, linkUp, linkDown, message, look, Answer, refused, accepted, added, empty, green, grey}
+use Rattle.history.specs.Reading.{Reader}
+use Rattle.history.specs.Summary.{Entry, Summary, tileAt, passes, carries, numberOn, summaryOf}
+
+abbrev pub callAt : List Call → ℕ → Call
+callAt cs k = getD cs k (look 0 0)
+
+-- the hold time of a tile
+abbrev pub holdTimeOf : Option Entry → ℕ
+holdTimeOf none = 0
+holdTimeOf (some e) = e .holdTime
+
+-- the value that a message gives a tile: its content
+abbrev pub valueFor : Message → List ℕ
+valueFor m = tree.encode (m .content)
+
+-- a link call
+abbrev pub IsLink : Call → Type 0
+IsLink (add t n h) = ⊥
+IsLink (linkUp t) = Unit {0}
+IsLink (linkDown t) = Unit {0}
+IsLink (message t s) = ⊥
+IsLink (look i t) = ⊥
+
+abbrev pub IsGreen : Answer → Type 0
+IsGreen a = (age : ℕ) × (value : List ℕ) × (a ≡ green age value)
+
+abbrev pub IsGrey : Answer → Type 0
+IsGrey a = (age : ℕ) × (value : List ℕ) × (a ≡ grey age value)
+
+module _ (R : Reader) where
+  abbrev pub summaryBefore : List Call → ℕ → Summary
+  summaryBefore cs k = summaryOf R (take k cs)
+
+  -- the call c, where the book is b, is the message m with that clock; it counts, and the book has a tile i whose name and type it carries,
+  -- so it comes after the adding
+  pub record CountsFor (b : Summary) (c : Call) (i clock : ℕ) (m : Message) : Type 0 where
+    pub well : WellFormed m
+    pub is : c ≡ message clock (encode m)
+    pub counts : numberOn R b c ≡ 0
+    pub carried : passes (carries m) (tileAt b i) ≡ true
+
+  -- at place k stands a message that counts for tile i
+  pub record Counted (cs : List Call) (i k clock : ℕ) (m : Message) : Type 0 where
+    pub within : k < length cs
+    pub counts-for : CountsFor (summaryBefore cs k) (callAt cs k) i clock m
+
+  -- an accepted link call
+  pub record Linked (b : Summary) (c : Call) : Type 0 where
+    pub link : IsLink c
+    pub accepted : numberOn R b c ≡ 0
+
+  -- no accepted link call stands after place k
+  abbrev pub Unlinked : List Call → ℕ → Type 0
+  Unlinked cs k = (j : ℕ) → k < j → j < length cs → Linked (summaryBefore cs j) (callAt cs j) → ⊥
+
+  -- demand 3's condition for green
+  pub record Current (cs : List Call) (i now : ℕ) : Type 0 where
+    pub place : ℕ
+    pub clock : ℕ
+    pub message : Message
+    pub counted : Counted cs i place clock message
+    pub unlinked : Unlinked cs place
+    pub no-older : now - clock ≤ holdTimeOf (tileAt (summaryOf R cs) i)
+
+  -- no message counted for the tile
+  abbrev pub Silent : List Call → ℕ → Type 0
+  Silent cs i = (k t : ℕ) (m : Message) → Counted cs i k t m → ⊥
+
+  -- the message at place k is the last that counted for the tile
+  pub record Last (cs : List Call) (i k clock : ℕ) (m : Message) : Type 0 where
+    pub counted : Counted cs i k clock m
+    pub last : (j t : ℕ) (n : Message) → Counted cs i j t n → j ≤ k
+
+  -- green or grey, with the value of the last message that counted, and with the look's clock less that message's as the age
+  pub record OfLast (cs : List Call) (i now : ℕ) (a : Answer) : Type 0 where
+    pub place : ℕ
+    pub clock : ℕ
+    pub message : Message
+    pub last : Last cs i place clock message
+    pub shown : (a ≡ green (now - clock) (valueFor message)) ⊎ (a ≡ grey (now - clock) (valueFor message))
+
+  -- what a look at tile i shows after the calls cs
+  pub record Shown (cs : List Call) (i now : ℕ) (a : Answer) : Type 0 where
+    pub is-green : IsGreen a ↔ Current cs i now
+    pub is-empty : (a ≡ empty) ↔ Silent cs i
+    pub is-grey : IsGrey a ↔ ((Silent cs i → ⊥) × (Current cs i now → ⊥))
+    pub of-last : Silent cs i ⊎ OfLast cs i now a
+
+  -- what a call answers that is not refused; an add, the number of tiles before it
+  abbrev pub Accepted : List Call → Call → Answer → Type 0
+  Accepted cs (add t n h) a = a ≡ added (length (summaryOf R cs .tiles))
+  Accepted cs (linkUp t) a = a ≡ accepted
+  Accepted cs (linkDown t) a = a ≡ accepted
+  Accepted cs (message t s) a = a ≡ accepted
+  Accepted cs (look i now) a = Shown cs i now a
+
+  -- the answer a of the call c after the calls cs is the book's, and of a look the history's
+  pub record Answers (cs : List Call) (c : Call) (a : Answer) : Type 0 where
+    pub refusal : (numberOn R (summaryOf R cs) c ≡ 0 → ⊥) → a ≡ refused (numberOn R (summaryOf R cs) c)
+    pub acceptance : numberOn R (summaryOf R cs) c ≡ 0 → Accepted cs c a

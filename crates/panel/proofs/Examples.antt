@@ -1,0 +1,90 @@
+-- P10 to P12 of document 01.
+use Prim.Native.Nat.{ℕ, _≤_}
+use mathlib.Core.Path.{_≡_, refl, sym, ap, ap₂, subst, _∙_}
+use mathlib.Core.Logic.{inl}
+use mathlib.Core.Bool.{Bool, true, false, cond, _&&_}
+use mathlib.Core.List.{List, [], _∷_, _++_, map}
+use native.Mathlib.Omega.{arith}
+use lib.ListN.{length}
+use borrow.Author.Tests.{le-ltb}
+use Rattle.fields.specs.Bytes.{same, sized}
+use Rattle.fields.specs.Lists.{all, any}
+use Rattle.fields.specs.Text.{isText}
+use Rattle.fields.specs.Checks.{orElse}
+use Rattle.fields.proofs.Laws.Checks.{else-second}
+use Rattle.content.specs.Kinds.{transformText}
+use Rattle.content.specs.Check.{deepest}
+use Rattle.message.specs.Message.{Message, encode}
+use Rattle.message.specs.Check.{readOf}
+use Rattle.message.specs.Demand2.{Begins}
+use Rattle.message.proofs.Laws.Messages.{demand-2}
+use Rattle.history.specs.Calls.{Call, add, linkUp, message, look, Answer, refused, green, grey}
+use Rattle.history.specs.Summary.{isAllowed, allowedFault, clockFault}
+use Rattle.history.specs.History.{valueFor}
+use Rattle.panel.specs.declared.Label.{Label}
+use Rattle.panel.specs.declared.Value.{Value}
+use Rattle.panel.specs.declared.Panel.{Panel}
+use Rattle.panel.specs.declared.Tile.{Tile}
+use Rattle.panel.specs.Tiles.{valueOf, labelOf, newTile, freeTile, heardBy, isTile}
+use Rattle.panel.specs.Calls.{labelIn, valueIn, addFault, addOf, linkOf, heardFault, messageFault, messageOf, lookFault, lookOf, received}
+use Rattle.panel.specs.Demand3.{answerTo, panelNext, panelAfter}
+use Rattle.panel.specs.Examples.{armText, FromArm, armCalls, looked, Examples}
+use Rattle.panel.proofs.Laws.Calls.{heard-whole}
+use Rattle.panel.proofs.Laws.Readings.{begins-one, one-step}
+use Rattle.panel.proofs.Laws.Contents.{pose-short, value-bytes}
+use Rattle.panel.proofs.Laws.Faults.{panel-changed}
+use Rattle.panel.proofs.Laws.Checked.{begun-label, begun-value}
+
+abbrev arm : Label
+arm = labelOf transformText armText
+
+-- the panel after the first two calls
+abbrev linkedPanel : Panel
+linkedPanel = panelAfter (add transformText armText 500 ∷ linkUp 1000 ∷ [])
+
+-- and after the message with this value
+abbrev heardPanel : Value → Panel
+heardPanel v = record { tiles = map (heardBy arm 1200 v) (linkedPanel .tiles); link = record { up = true; clock = 1200 } }
+
+module _ (m : Message) (f : FromArm m) where
+  front : Begins (encode m) m
+  front = begins-one (encode m) m (f .well) refl
+
+  label-is : labelIn (encode m) (readOf (encode m)) ≡ arm
+  label-is = begun-label (encode m) m front ∙ ap₂ labelOf (f .is-transform) (f .is-arm)
+
+  heard-fault : heardFault (linkedPanel .tiles) (encode m) (readOf (encode m)) ≡ 0
+  unfolding panelAfter addOf addFault linkOf allowedFault isAllowed clockFault same sized any isText all
+  heard-fault =
+      heard-whole (linkedPanel .tiles) (encode m) (readOf (encode m)) (demand-2 .begun (encode m) m front)
+      (omega (arith, one-step (encode m) m (f .well) refl))
+      ∙ ap (λ (l : Label). cond (any (isTile l) (linkedPanel .tiles)) 0 13) label-is
+
+  message-fault : messageFault linkedPanel 1200 (encode m) ≡ 0
+  unfolding messageFault panelAfter addOf addFault linkOf allowedFault isAllowed clockFault same sized any isText all
+  message-fault = heard-fault
+
+  heard-panel : panelAfter (armCalls m) ≡ heardPanel (valueOf (valueFor m))
+  unfolding panelAfter
+  heard-panel =
+      panel-changed linkedPanel (message 1200 (encode m)) message-fault
+      ∙ ap₂ (λ (l : Label) (v : Value). record { tiles = map (heardBy l 1200 v) (linkedPanel .tiles); link = record { up = true; clock = 1200 } })
+      label-is (begun-value (encode m) m front)
+
+  short : length (valueFor m) ≤ 48
+  short = pose-short (m .content) deepest (f .well .content) (inl (f .is-transform))
+
+  shown : (a : List ℕ → Answer) (now : ℕ) → answerTo (heardPanel (valueOf (valueFor m))) (look 0 now) ≡ a (valueFor m) → looked (armCalls m) now ≡ a (valueFor m)
+  shown a now e = ap (λ (p : Panel). answerTo p (look 0 now)) heard-panel ∙ e
+
+pub examples : Examples
+unfolding panelAfter addOf addFault linkOf allowedFault isAllowed clockFault lookOf lookFault same sized any isText all
+examples =
+    record {
+      p10 = λ m f. shown m f (green 500) 1700 (ap (green 500) (value-bytes (valueFor m) (short m f)));
+      p11 = λ m f. shown m f (grey 501) 1701 (ap (grey 501) (value-bytes (valueFor m) (short m f)));
+      p11-before = λ m f. shown m f (λ v. refused 15) 1199 refl;
+      p12 = λ m f.
+          ap (λ (p : Panel). answerTo (panelNext p (linkUp 1400)) (look 0 1400)) (heard-panel m f)
+          ∙ ap (grey 200) (value-bytes (valueFor m) (short m f));
+    }

@@ -1,0 +1,231 @@
+-- Demand 3.
+use Prim.Native.Nat.{ℕ, zero, suc, _-_, _<_, _≤_}
+use mathlib.Core.Path.{_≡_, refl, ap, ap₂, sym, subst, _∙_}
+use mathlib.Core.Logic.{_⊎_, inl, inr, ⊎-elim}
+use mathlib.Core.Bool.{Bool, true, false, cond, _&&_, false≢true}
+use mathlib.Core.List.{List, [], _∷_, _++_, append-nil, append-assoc, foldl-append}
+use native.Mathlib.Omega.{arith}
+use lib.Dec.{eqb, leb}
+use lib.ListN.{length, take, getD, replicate}
+use borrow.Author.Tests.{leb-true, leb-false}
+use Rattle.fields.specs.Lists.{Each}
+use Rattle.fields.proofs.Laws.Checks.{zero-else, cond-pass}
+use Rattle.message.specs.Message.{Message}
+use Rattle.history.specs.Calls.{Call, add, linkUp, linkDown, message, look, OfBytes, Answer, refused, accepted, added, empty, green, grey}
+use Rattle.history.specs.Reading.{Reader}
+use Rattle.history.specs.Summary.{Summary, tileAt, isThere, clockFault, numberOn, summaryOf}
+use Rattle.history.specs.History.{callAt, holdTimeOf, valueFor, IsGreen, IsGrey, Counted, Unlinked, Current, Silent, Last, OfLast, Shown, Accepted, Answers}
+use Rattle.panel.specs.declared.Tile.{Tile}
+use Rattle.panel.specs.declared.Panel.{Panel}
+use Rattle.panel.specs.declared.LookResult.{LookResult}
+use Rattle.panel.specs.declared.LookAnswer.the-variants.{Empty, Green, Grey}
+use Rattle.panel.specs.Tiles.{noValue, freeTile, noTile}
+use Rattle.panel.specs.Calls.{freshPanel, lookFault, lookedAt, refusedLook, lookOf}
+use Rattle.panel.specs.Answers.{valueBytes, Padded, lookAnswer}
+use Rattle.panel.specs.Demand3.{answerTo, panelNext, panelAfter, Claim, Demand3}
+use Rattle.panel.proofs.Laws.Tests.{by-test, by-zero, cond-cases}
+use Rattle.panel.proofs.Laws.Readings.{a-reader}
+use Rattle.panel.proofs.Laws.Contents.{value-bytes, value-padded}
+use Rattle.panel.proofs.Laws.Faults.{faultOn, acceptedBy, answer-refused, answer-accepted, refused-kept, panel-looked}
+use Rattle.panel.proofs.Laws.Tied.{fresh-tied, seat-hold}
+use Rattle.panel.proofs.Laws.Past.{Kept, silent, heard}
+use Rattle.panel.proofs.Laws.Checked.{next-free, fault-same}
+use Rattle.panel.proofs.Laws.Step.{Good, step}
+
+-- ---- what is known after any sequence of calls
+
+heard-fresh : (n i : ℕ) → getD (replicate n freeTile) i noTile .heard ≡ false
+heard-fresh zero i = refl
+heard-fresh (suc n) zero = refl
+heard-fresh (suc n) (suc i) = heard-fresh n i
+
+fresh-good : (R : Reader) → Good R [] (panelAfter [])
+unfolding summaryOf panelAfter
+fresh-good R =
+    record {
+      tied = fresh-tied;
+      known = λ i k t m d. absurd (omega (arith, d .within));
+      kept = λ i. silent (heard-fresh 16 i) (λ k t m d. omega (arith, d .within));
+    }
+
+panel-more : (cs : List Call) (c : Call) → panelAfter (cs ++ (c ∷ [])) ≡ panelNext (panelAfter cs) c
+unfolding panelAfter
+panel-more cs c = foldl-append panelNext freshPanel cs (c ∷ [])
+
+good-from : (R : Reader) (done todo : List Call) → Each OfBytes todo → Good R done (panelAfter done) → Good R (done ++ todo) (panelAfter (done ++ todo))
+good-from R done [] o G = subst (λ (l : List Call). Good R l (panelAfter l)) (sym (append-nil done)) G
+good-from R done (c ∷ todo) o G =
+    subst (λ (l : List Call). Good R l (panelAfter l)) (append-assoc done (c ∷ []) todo)
+    (good-from R (done ++ (c ∷ [])) todo (o .1)
+    (subst (Good R (done ++ (c ∷ []))) (sym (panel-more done c)) (step R done (panelAfter done) G c (o .0))))
+
+pub good : (R : Reader) (cs : List Call) → Each OfBytes cs → Good R cs (panelAfter cs)
+good R cs o = good-from R [] cs o (fresh-good R)
+
+-- ---- what a tile shows
+
+abbrev isGreen : Answer → Bool
+isGreen (refused n) = false
+isGreen accepted = false
+isGreen (added i) = false
+isGreen empty = false
+isGreen (green a v) = true
+isGreen (grey a v) = false
+
+abbrev isEmpty : Answer → Bool
+isEmpty (refused n) = false
+isEmpty accepted = false
+isEmpty (added i) = false
+isEmpty empty = true
+isEmpty (green a v) = false
+isEmpty (grey a v) = false
+
+module _ (R : Reader) (cs : List Call) (i now : ℕ) where
+  module _ (k t : ℕ) (m : Message) (hold : ℕ) (same-hold : hold ≡ holdTimeOf (tileAt (summaryOf R cs) i)) (d : Counted R cs i k t m)
+      (o : (j u : ℕ) (n : Message) → Counted R cs i j u n → (j ≤ k) × (u ≤ t)) where
+    -- where an earlier message would make the tile green, the last one does
+    at-last : Current R cs i now → Unlinked R cs k × (now - t ≤ hold)
+    at-last g =
+        let w = o (g .place) (g .clock) (g .message) (g .counted) in
+        ((λ j kj. g .unlinked j (omega (arith, w .0))), omega (arith, w .1, g .no-older, same-hold))
+
+    not-silent : Silent R cs i → ⊥
+    not-silent q = q k t m d
+
+    last-is : Last R cs i k t m
+    last-is = record { counted = d; last = λ j u n e. o j u n e .0 }
+
+    green-shown : Unlinked R cs k → now - t ≤ hold → Shown R cs i now (green (now - t) (valueFor m))
+    green-shown u h =
+        let g : Current R cs i now = record { place = k; clock = t; message = m; counted = d; unlinked = u; no-older = omega (arith, h, same-hold) } in
+        record {
+          is-green = ((λ y. g), (λ y. (now - t, valueFor m, refl)));
+          is-empty = ((λ y. absurd (no-answer y)), (λ q. absurd (not-silent q)));
+          is-grey = ((λ y. absurd (no-grey (y .0) (y .1) (y .2))), (λ y. absurd (y .1 g)));
+          of-last = inr (record { place = k; clock = t; message = m; last = last-is; shown = inl refl });
+        }
+      where
+        no-answer : green (now - t) (valueFor m) ≡ empty → ⊥
+        no-answer y = false≢true (sym (ap isGreen y))
+
+        no-grey : (a : ℕ) (v : List ℕ) → green (now - t) (valueFor m) ≡ grey a v → ⊥
+        no-grey a v y = false≢true (sym (ap isGreen y))
+
+    grey-shown : (Current R cs i now → ⊥) → Shown R cs i now (grey (now - t) (valueFor m))
+    grey-shown n =
+        record {
+          is-green = ((λ y. absurd (no-green (y .0) (y .1) (y .2))), (λ y. absurd (n y)));
+          is-empty = ((λ y. absurd (no-answer y)), (λ q. absurd (not-silent q)));
+          is-grey = ((λ y. (not-silent, n)), (λ y. (now - t, valueFor m, refl)));
+          of-last = inr (record { place = k; clock = t; message = m; last = last-is; shown = inr refl });
+        }
+      where
+        no-green : (a : ℕ) (v : List ℕ) → grey (now - t) (valueFor m) ≡ green a v → ⊥
+        no-green a v y = false≢true (ap isGreen y)
+
+        no-answer : grey (now - t) (valueFor m) ≡ empty → ⊥
+        no-answer y = false≢true (ap isEmpty y)
+
+  silent-shown : Silent R cs i → Shown R cs i now empty
+  silent-shown q =
+      record {
+        is-green = ((λ y. absurd (no-green (y .0) (y .1) (y .2))), (λ g. absurd (q (g .place) (g .clock) (g .message) (g .counted))));
+        is-empty = ((λ y. q), (λ y. refl));
+        is-grey = ((λ y. absurd (no-grey (y .0) (y .1) (y .2))), (λ y. absurd (y .0 q)));
+        of-last = inl q;
+      }
+    where
+      no-green : (a : ℕ) (v : List ℕ) → empty ≡ green a v → ⊥
+      no-green a v y = false≢true (sym (ap isEmpty y))
+
+      no-grey : (a : ℕ) (v : List ℕ) → empty ≡ grey a v → ⊥
+      no-grey a v y = false≢true (sym (ap isEmpty y))
+
+  module _ (p : Panel) (x : Tile) (same-hold : x .«hold_time» ≡ holdTimeOf (tileAt (summaryOf R cs) i)) where
+    -- by whether a message was heard, came since the last link call, and is no older than the hold time
+    abbrev shownAs : Bool → Bool → Bool → Answer
+    shownAs h s l = lookAnswer (cond h (cond (s && l) (Green (now - x .clock)) (Grey (now - x .clock))) Empty) (cond h (x .value) noValue)
+
+    abbrev recent : Bool
+    recent = leb (now - x .clock) (x .«hold_time»)
+
+    shown-as : (h s l : Bool) → x .heard ≡ h → x .«since_link» ≡ s → recent ≡ l
+        → lookAnswer (lookedAt p x now .answer) (lookedAt p x now .value) ≡ shownAs h s l
+    shown-as h s l e f g =
+        ap (λ (y : Bool). shownAs y (x .«since_link») recent) e ∙ ap₂ (shownAs h) f g
+
+    tile-shown : Kept R cs i x → Shown R cs i now (lookAnswer (lookedAt p x now .answer) (lookedAt p x now .value))
+    tile-shown (silent h q) = subst (Shown R cs i now) (sym (shown-as false (x .«since_link») recent h refl refl)) (silent-shown q)
+    tile-shown (heard k m h d v f o u) =
+        let e : valueBytes (x .value) ≡ valueFor m = ap valueBytes v ∙ value-bytes (valueFor m) f in
+        ⊎-elim
+        (λ w.
+        by-test recent
+        (λ q. subst (Shown R cs i now) (sym (shown-as true true true h (w .0) q ∙ ap (green (now - x .clock)) e))
+        (green-shown k (x .clock) m (x .«hold_time») same-hold d o (w .1) (leb-true _ _ q)))
+        (λ q. subst (Shown R cs i now) (sym (shown-as true true false h (w .0) q ∙ ap (grey (now - x .clock)) e))
+        (grey-shown k (x .clock) m (x .«hold_time») same-hold d o
+        (λ g. omega (arith, leb-false (now - x .clock) (x .«hold_time») q, at-last k (x .clock) m (x .«hold_time») same-hold d o g .1)))))
+        (λ w. subst (Shown R cs i now) (sym (shown-as true false recent h (w .0) refl ∙ ap (grey (now - x .clock)) e))
+        (grey-shown k (x .clock) m (x .«hold_time») same-hold d o (λ g. w .1 (at-last k (x .clock) m (x .«hold_time») same-hold d o g .0))))
+        u
+
+-- ---- what a call answers
+
+module _ (R : Reader) (cs : List Call) (p : Panel) (G : Good R cs p) where
+  look-passed : (i now : ℕ) → numberOn R (summaryOf R cs) (look i now) ≡ 0 → isThere (tileAt (summaryOf R cs) i) ≡ true
+  look-passed i now z = cond-pass (isThere (tileAt (summaryOf R cs) i)) 18 0 (zero-else _ _ z .0) .0
+
+  accepted-answer : (c : Call) → numberOn R (summaryOf R cs) c ≡ 0 → Accepted R cs c (acceptedBy p c)
+  accepted-answer (add t n h) z = ap added (next-free p (summaryOf R cs) (G .tied))
+  accepted-answer (linkUp t) z = refl
+  accepted-answer (linkDown t) z = refl
+  accepted-answer (message t s) z = refl
+  accepted-answer (look i now) z = tile-shown R cs i now p _ (seat-hold (G .tied .seats i) (look-passed i now z)) (G .kept i)
+
+  pub answers : (c : Call) → OfBytes c → Answers R cs c (answerTo p c)
+  answers c o =
+      let e : faultOn p c ≡ numberOn R (summaryOf R cs) c = fault-same p (summaryOf R cs) (G .tied) R c o in
+      record {
+        refusal = λ z. answer-refused p c (λ y. z (sym e ∙ y)) ∙ ap refused e;
+        acceptance = λ z. subst (Accepted R cs c) (sym (answer-accepted p c (e ∙ z))) (accepted-answer c z);
+      }
+
+  -- ---- the value beside a look's answer
+
+  tile-padded : (x : Tile) (i now : ℕ) → Kept R cs i x → Padded (lookedAt p x now .value)
+  tile-padded x i now (silent h q) = subst Padded (sym (ap (λ (t : Bool). cond t (x .value) noValue) h)) (value-padded [] (omega arith))
+  tile-padded x i now (heard k m h d v f o u) =
+      subst Padded (sym (ap (λ (t : Bool). cond t (x .value) noValue) h ∙ v)) (value-padded (valueFor m) f)
+
+  pub look-padded : (i now : ℕ) → Padded (lookOf p i now .value)
+  unfolding lookOf
+  look-padded i now =
+      cond-cases (λ (r : LookResult). Padded (r .value)) (eqb (lookFault p i now) 0) (lookedAt p (getD (p .tiles) i noTile) now)
+      (refusedLook p (lookFault p i now)) (λ q. tile-padded _ i now (G .kept i)) (λ q. value-padded [] (omega arith))
+
+-- ---- demand 3
+
+each-take : (k : ℕ) (cs : List Call) → Each OfBytes cs → Each OfBytes (take k cs)
+each-take zero cs o = tt
+each-take (suc k) [] o = tt
+each-take (suc k) (c ∷ cs) o = (o .0, each-take k cs (o .1))
+
+each-at : (k : ℕ) (cs : List Call) → Each OfBytes cs → OfBytes (callAt cs k)
+each-at k [] o = tt
+each-at zero (c ∷ cs) o = o .0
+each-at (suc k) (c ∷ cs) o = each-at k cs (o .1)
+
+pub demand-3 : Demand3
+demand-3 =
+    record {
+      claim = λ R cs o.
+          record {
+            inside = λ k l. answers R (take k cs) (panelAfter (take k cs)) (good R (take k cs) (each-take k cs o)) (callAt cs k) (each-at k cs o);
+            after = λ i now. answers R cs (panelAfter cs) (good R cs o) (look i now) tt;
+            padded = look-padded R cs (panelAfter cs) (good R cs o);
+          };
+      reader = a-reader;
+      refused = refused-kept;
+      looked = panel-looked;
+    }

@@ -1,0 +1,105 @@
+-- What a call gives by the number of its first fault, for every panel.
+use Prim.Native.Nat.{ℕ, _-_}
+use mathlib.Core.Path.{_≡_, refl, sym, ap, _∙_}
+use mathlib.Core.Bool.{Bool, true, false, cond, _&&_}
+use mathlib.Core.List.{List}
+use lib.Dec.{leb}
+use lib.ListN.{getD}
+use borrow.Author.Tests.{ne-eqb}
+use Rattle.message.specs.Check.{readOf}
+use Rattle.history.specs.Calls.{Call, add, linkUp, linkDown, message, look, Answer, refused, accepted, added, numberOf}
+use Rattle.history.specs.Summary.{clockFault}
+use Rattle.panel.specs.declared.Value.{Value}
+use Rattle.panel.specs.declared.Tile.{Tile}
+use Rattle.panel.specs.declared.Panel.{Panel}
+use Rattle.panel.specs.declared.AddResult.{AddResult}
+use Rattle.panel.specs.declared.CallResult.{CallResult}
+use Rattle.panel.specs.declared.LookResult.{LookResult}
+use Rattle.panel.specs.declared.LookAnswer.the-variants.{Empty, Green, Grey}
+use Rattle.panel.specs.Tiles.{noValue, labelOf, noTile, newTile, freeIn}
+use Rattle.panel.specs.Calls.{addFault, entered, linked, messageFault, received, lookFault, lookedAt}
+use Rattle.panel.specs.Answers.{addAnswer, callAnswer, lookAnswer}
+use Rattle.panel.specs.Demand3.{answerTo, panelNext}
+use Rattle.panel.proofs.Laws.Tests.{by-zero}
+use Rattle.panel.proofs.Laws.Calls.{add-refused, add-accepted, link-refused, link-accepted, message-refused, message-accepted, look-refused, look-accepted}
+
+abbrev pub faultOn : Panel → Call → ℕ
+faultOn p (add t n h) = addFault p t n h
+faultOn p (linkUp t) = clockFault (p .link .clock) t
+faultOn p (linkDown t) = clockFault (p .link .clock) t
+faultOn p (message t s) = messageFault p t s
+faultOn p (look i now) = lookFault p i now
+
+-- the panel after a call that is not refused
+abbrev pub changedBy : Panel → Call → Panel
+changedBy p (add t n h) = entered p (newTile (labelOf t n) h)
+changedBy p (linkUp t) = linked p true t
+changedBy p (linkDown t) = linked p false t
+changedBy p (message t s) = received p t s (readOf s)
+changedBy p (look i now) = p
+
+-- what it answers
+abbrev pub acceptedBy : Panel → Call → Answer
+acceptedBy p (add t n h) = added (freeIn (p .tiles))
+acceptedBy p (linkUp t) = accepted
+acceptedBy p (linkDown t) = accepted
+acceptedBy p (message t s) = accepted
+acceptedBy p (look i now) = lookAnswer (lookedAt p (getD (p .tiles) i noTile) now .answer) (lookedAt p (getD (p .tiles) i noTile) now .value)
+
+-- ---- the panel
+
+pub panel-refused : (p : Panel) (c : Call) → (faultOn p c ≡ 0 → ⊥) → panelNext p c ≡ p
+panel-refused p (add t n h) z = ap (λ (r : AddResult). r .panel) (sym (add-refused p t n h _ refl z))
+panel-refused p (linkUp t) z = ap (λ (r : CallResult). r .panel) (sym (link-refused true p t _ refl z))
+panel-refused p (linkDown t) z = ap (λ (r : CallResult). r .panel) (sym (link-refused false p t _ refl z))
+panel-refused p (message t s) z = ap (λ (r : CallResult). r .panel) (sym (message-refused p t s _ refl z))
+panel-refused p (look i now) z = ap (λ (r : LookResult). r .panel) (sym (look-refused p i now _ refl z))
+
+pub panel-changed : (p : Panel) (c : Call) → faultOn p c ≡ 0 → panelNext p c ≡ changedBy p c
+panel-changed p (add t n h) e = ap (λ (r : AddResult). r .panel) (sym (add-accepted p t n h e))
+panel-changed p (linkUp t) e = ap (λ (r : CallResult). r .panel) (sym (link-accepted true p t e))
+panel-changed p (linkDown t) e = ap (λ (r : CallResult). r .panel) (sym (link-accepted false p t e))
+panel-changed p (message t s) e = ap (λ (r : CallResult). r .panel) (sym (message-accepted p t s e))
+panel-changed p (look i now) e = ap (λ (r : LookResult). r .panel) (sym (look-accepted p i now e))
+
+pub panel-looked : (p : Panel) (i now : ℕ) → panelNext p (look i now) ≡ p
+panel-looked p i now = by-zero (lookFault p i now) (panel-changed p (look i now)) (panel-refused p (look i now))
+
+-- ---- the answer
+
+call-refused : (n : ℕ) → (n ≡ 0 → ⊥) → callAnswer n ≡ refused n
+call-refused n z = ap (λ (t : Bool). cond t accepted (refused n)) (ne-eqb n 0 z)
+
+pub answer-refused : (p : Panel) (c : Call) → (faultOn p c ≡ 0 → ⊥) → answerTo p c ≡ refused (faultOn p c)
+answer-refused p (add t n h) z = ap (λ (r : AddResult). addAnswer (r .answer)) (sym (add-refused p t n h _ refl z))
+answer-refused p (linkUp t) z = ap (λ (r : CallResult). callAnswer (r .number)) (sym (link-refused true p t _ refl z)) ∙ call-refused _ z
+answer-refused p (linkDown t) z = ap (λ (r : CallResult). callAnswer (r .number)) (sym (link-refused false p t _ refl z)) ∙ call-refused _ z
+answer-refused p (message t s) z = ap (λ (r : CallResult). callAnswer (r .number)) (sym (message-refused p t s _ refl z)) ∙ call-refused _ z
+answer-refused p (look i now) z = ap (λ (r : LookResult). lookAnswer (r .answer) (r .value)) (sym (look-refused p i now _ refl z))
+
+pub answer-accepted : (p : Panel) (c : Call) → faultOn p c ≡ 0 → answerTo p c ≡ acceptedBy p c
+answer-accepted p (add t n h) e = ap (λ (r : AddResult). addAnswer (r .answer)) (sym (add-accepted p t n h e))
+answer-accepted p (linkUp t) e = ap (λ (r : CallResult). callAnswer (r .number)) (sym (link-accepted true p t e))
+answer-accepted p (linkDown t) e = ap (λ (r : CallResult). callAnswer (r .number)) (sym (link-accepted false p t e))
+answer-accepted p (message t s) e = ap (λ (r : CallResult). callAnswer (r .number)) (sym (message-accepted p t s e))
+answer-accepted p (look i now) e = ap (λ (r : LookResult). lookAnswer (r .answer) (r .value)) (sym (look-accepted p i now e))
+
+-- ---- a call is refused exactly when its number is not 0
+
+shown-number : (p : Panel) (x : Tile) (now : ℕ) → numberOf (lookAnswer (lookedAt p x now .answer) (lookedAt p x now .value)) ≡ 0
+shown-number p x now = shown (x .heard) (x .«since_link» && leb (now - x .clock) (x .«hold_time»)) (now - x .clock) (x .value) noValue
+  where
+    shown : (h c : Bool) (a : ℕ) (v w : Value) → numberOf (lookAnswer (cond h (cond c (Green a) (Grey a)) Empty) (cond h v w)) ≡ 0
+    shown true true a v w = refl
+    shown true false a v w = refl
+    shown false c a v w = refl
+
+accepted-number : (p : Panel) (c : Call) → numberOf (acceptedBy p c) ≡ 0
+accepted-number p (add t n h) = refl
+accepted-number p (linkUp t) = refl
+accepted-number p (linkDown t) = refl
+accepted-number p (message t s) = refl
+accepted-number p (look i now) = shown-number p (getD (p .tiles) i noTile) now
+
+pub refused-kept : (p : Panel) (c : Call) → (numberOf (answerTo p c) ≡ 0 → ⊥) → panelNext p c ≡ p
+refused-kept p c z = panel-refused p c (λ e. z (ap numberOf (answer-accepted p c e) ∙ accepted-number p c))

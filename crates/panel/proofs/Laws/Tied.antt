@@ -1,0 +1,110 @@
+-- The panel and the book hold the same, place by place.
+use Prim.Native.Nat.{ℕ, zero, suc, _≤_}
+use mathlib.Core.Path.{_≡_, refl, ap, ap₂, sym, _∙_}
+use mathlib.Core.Bool.{Bool, true, false, cond, _&&_, _||_}
+use mathlib.Core.List.{List, [], _∷_, _++_}
+use mathlib.Core.Option.{Option, none, some}
+use native.Mathlib.Omega.{arith}
+use lib.Dec.{eqb, ltb, eqb·suc-suc, eqb·suc-zero, eqb·zero-suc}
+use lib.ListN.{length, getD, replicate}
+use borrow.Author.Tests.{ltb-false}
+use Rattle.fields.specs.Lists.{any}
+use Rattle.header.specs.Header.{WellTexts}
+use Rattle.history.specs.Summary.{Entry, Summary, tileIn, tileAt, passes, isThere, isOf, isAllowed, freshSummary}
+use Rattle.history.specs.History.{holdTimeOf}
+use Rattle.panel.specs.declared.Label.{Label}
+use Rattle.panel.specs.declared.Tile.{Tile}
+use Rattle.panel.specs.declared.Panel.{Panel}
+use Rattle.panel.specs.Tiles.{labelOf, freeTile, noTile, isTile, freeIn}
+use Rattle.panel.specs.Calls.{freshPanel}
+use Rattle.panel.proofs.Laws.Tests.{by-test, true-false}
+use Rattle.panel.proofs.Laws.Labels.{Allowed, allowed, allowed-texts, sameLabel, label-says}
+
+-- the place holds what the book has under its number
+pub data Seat (x : Tile) : Option Entry → Type 0 where
+  empty : x .used ≡ false → x .heard ≡ false → Seat x none
+  taken : {e : Entry} → x .used ≡ true → x .label ≡ labelOf (e .typeText) (e .name) → x .«hold_time» ≡ e .holdTime
+      → isAllowed (e .typeText) (e .name) (e .holdTime) ≡ true → Seat x (some e)
+
+pub record Tied (p : Panel) (b : Summary) : Type 0 where
+  pub clock : p .link .clock ≡ b .clock
+  pub up : p .link .up ≡ b .up
+  pub places : length (p .tiles) ≡ 16
+  pub seats : (i : ℕ) → Seat (getD (p .tiles) i noTile) (tileAt b i)
+
+-- ---- what the two of one seat agree on
+
+pub seat-used : {x : Tile} {o : Option Entry} → Seat x o → x .used ≡ isThere o
+seat-used (empty u h) = u
+seat-used (taken u l h a) = u
+
+-- an empty place has heard nothing
+pub seat-heard : {x : Tile} {o : Option Entry} → Seat x o → x .used ≡ false → x .heard ≡ false
+seat-heard (empty u h) f = h
+seat-heard {x} (taken u l h a) f = true-false (x .used) u f
+
+pub seat-hold : {x : Tile} {o : Option Entry} → Seat x o → isThere o ≡ true → x .«hold_time» ≡ holdTimeOf o
+seat-hold (empty u h) t = true-false false t refl
+seat-hold (taken u l h a) t = h
+
+pub seat-is : {x : Tile} {o : Option Entry} (t n : List ℕ) → WellTexts t n → Seat x o → isTile (labelOf t n) x ≡ passes (isOf t n) o
+seat-is {x} t n w (empty u h) = ap (λ (y : Bool). y && sameLabel (x .label) (labelOf t n)) u
+seat-is {x} t n w (taken {e} u l h a) =
+    ap₂ (λ (y : Bool) (k : Label). y && sameLabel k (labelOf t n)) u l
+    ∙ label-says t n e w (allowed-texts (e .typeText) (e .name) (allowed (e .typeText) (e .name) (e .holdTime) a))
+
+-- ---- what table and book therefore agree on
+
+-- one that passes a test
+pub any-alike : (xs : List Tile) (es : List Entry) (f : Tile → Bool) (g : Entry → Bool) → f noTile ≡ false
+    → ((i : ℕ) → f (getD xs i noTile) ≡ passes g (tileIn es i)) → any f xs ≡ any g es
+unfolding any
+any-alike [] [] f g z h = refl
+any-alike [] (e ∷ es) f g z h = sym (ap₂ _||_ (sym (h zero) ∙ z) (sym (any-alike [] es f g z (λ i. h (suc i)))))
+any-alike (x ∷ xs) [] f g z h = ap₂ _||_ (h zero) (any-alike xs [] f g z (λ i. h (suc i)))
+any-alike (x ∷ xs) (e ∷ es) f g z h = ap₂ _||_ (h zero) (any-alike xs es f g z (λ i. h (suc i)))
+
+-- the number that comes next
+pub next-alike : (xs : List Tile) (es : List Entry) → ((i : ℕ) → getD xs i noTile .used ≡ isThere (tileIn es i)) → freeIn xs ≡ length es
+next-alike [] [] h = refl
+next-alike [] (e ∷ es) h = true-false false (h zero) refl
+next-alike (x ∷ xs) [] h = ap (λ (t : Bool). cond t (suc (freeIn xs)) 0) (h zero)
+next-alike (x ∷ xs) (e ∷ es) h = ap (λ (t : Bool). cond t (suc (freeIn xs)) 0) (h zero) ∙ ap suc (next-alike xs es (λ i. h (suc i)))
+
+-- the place of a new tile is empty
+pub free-unused : (xs : List Tile) → getD xs (freeIn xs) noTile .used ≡ false
+free-unused [] = refl
+free-unused (x ∷ xs) = by-test (x .used) (λ q. rw q (free-unused xs)) (λ q. rw q refl)
+
+tile-past : (xs : List Tile) (i : ℕ) → length xs ≤ i → getD xs i noTile ≡ noTile
+tile-past [] i h = refl
+tile-past (x ∷ xs) zero h = absurd (omega arith)
+tile-past (x ∷ xs) (suc i) h = tile-past xs i (omega arith)
+
+-- the numbers that tiles have
+pub there-alike : (p : Panel) (b : Summary) → Tied p b → (i : ℕ) → (ltb i 16 && getD (p .tiles) i noTile .used) ≡ isThere (tileAt b i)
+there-alike p b T i =
+    let x : Tile = getD (p .tiles) i noTile in
+    by-test (ltb i 16)
+    (λ q. ap (λ (t : Bool). t && x .used) q ∙ seat-used (T .seats i))
+    (λ q.
+    ap (λ (t : Bool). t && x .used) q
+    ∙ sym (sym (seat-used (T .seats i)) ∙ ap (λ (y : Tile). y .used) (tile-past (p .tiles) i (omega (arith, ltb-false i 16 q, T .places)))))
+
+-- ---- a tile more in the book
+
+pub tile-more : (es : List Entry) (e : Entry) (i : ℕ) → tileIn (es ++ (e ∷ [])) i ≡ cond (eqb i (length es)) (some e) (tileIn es i)
+tile-more [] e zero = refl
+tile-more [] e (suc i) = rw (eqb·suc-zero i)
+tile-more (x ∷ es) e zero = rw (eqb·zero-suc (length es))
+tile-more (x ∷ es) e (suc i) = rw (eqb·suc-suc i (length es)) (tile-more es e i)
+
+-- ---- nothing yet
+
+free-at : (n i : ℕ) → Seat (getD (replicate n freeTile) i noTile) none
+free-at zero i = empty refl refl
+free-at (suc n) zero = empty refl refl
+free-at (suc n) (suc i) = free-at n i
+
+pub fresh-tied : Tied freshPanel freshSummary
+fresh-tied = record { clock = refl; up = refl; places = refl; seats = free-at 16 }
