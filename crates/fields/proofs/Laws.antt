@@ -6,6 +6,7 @@ pub mod Numbers
 pub mod Text
 pub mod Layout
 pub mod Checks
+pub mod Tests
 pub mod Stores
 pub mod Answer
 pub mod Walks

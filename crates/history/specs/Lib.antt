@@ -1,4 +1,4 @@
--- Demand 3's side of the calls: what they say, never what the panel makes of them. Nothing is proved here, and nothing reads bytes.
+-- Demand 3's side of the calls: what they say, never what the panel makes of them. Nothing is proved here.
 
 pub mod Calls
 pub mod Reading

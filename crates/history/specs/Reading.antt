@@ -19,7 +19,12 @@ pub data Reads (s : List ℕ) : Reading → Type 0 where
   more : (m : Message) (b : Begins s m) → 0 < length (b .rest) → Reads s left-over
   one : (m : Message) → WellFormed m → encode m ≡ s → Reads s (one-message m)
 
--- document 01's reader of demand 2: any function that reads all bytes so. There is one, and any two agree
+-- document 01's reader of demand 2: any function that reads all bytes so
 pub record Reader : Type 0 where
   pub read : List ℕ → Reading
   pub reads : (s : List ℕ) → Bytes s → Reads s (read s)
+
+-- there is one, and any two agree
+pub record Readers : Type 0 where
+  pub some : Reader
+  pub agree : (P Q : Reader) (s : List ℕ) → Bytes s → P .read s ≡ Q .read s

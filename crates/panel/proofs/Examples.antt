@@ -1,36 +1,32 @@
 -- P10 to P12 of document 01.
 use Prim.Native.Nat.{ℕ, _≤_}
-use mathlib.Core.Path.{_≡_, refl, sym, ap, ap₂, subst, _∙_}
+use mathlib.Core.Path.{_≡_, refl, ap, ap₂, _∙_}
 use mathlib.Core.Logic.{inl}
-use mathlib.Core.Bool.{Bool, true, false, cond, _&&_}
-use mathlib.Core.List.{List, [], _∷_, _++_, map}
+use mathlib.Core.Bool.{true, cond}
+use mathlib.Core.List.{List, [], _∷_, map}
 use native.Mathlib.Omega.{arith}
 use lib.ListN.{length}
-use borrow.Author.Tests.{le-ltb}
 use Rattle.fields.specs.Bytes.{same, sized}
 use Rattle.fields.specs.Lists.{all, any}
 use Rattle.fields.specs.Text.{isText}
-use Rattle.fields.specs.Checks.{orElse}
-use Rattle.fields.proofs.Laws.Checks.{else-second}
 use Rattle.content.specs.Kinds.{transformText}
 use Rattle.content.specs.Check.{deepest}
 use Rattle.message.specs.Message.{Message, encode}
 use Rattle.message.specs.Check.{readOf}
 use Rattle.message.specs.Demand2.{Begins}
 use Rattle.message.proofs.Laws.Messages.{demand-2}
-use Rattle.history.specs.Calls.{Call, add, linkUp, message, look, Answer, refused, green, grey}
+use Rattle.history.specs.Calls.{add, linkUp, message, look, Answer, refused, green, grey}
 use Rattle.history.specs.Summary.{isAllowed, allowedFault, clockFault}
 use Rattle.history.specs.History.{valueFor}
 use Rattle.panel.specs.declared.Label.{Label}
 use Rattle.panel.specs.declared.Value.{Value}
 use Rattle.panel.specs.declared.Panel.{Panel}
-use Rattle.panel.specs.declared.Tile.{Tile}
-use Rattle.panel.specs.Tiles.{valueOf, labelOf, newTile, freeTile, heardBy, isTile}
-use Rattle.panel.specs.Calls.{labelIn, valueIn, addFault, addOf, linkOf, heardFault, messageFault, messageOf, lookFault, lookOf, received}
+use Rattle.panel.specs.Tiles.{valueOf, labelOf, heardBy, isTile}
+use Rattle.panel.specs.Calls.{labelIn, addFault, addOf, linkOf, heardFault, messageFault, lookFault, lookOf}
 use Rattle.panel.specs.Demand3.{answerTo, panelNext, panelAfter}
 use Rattle.panel.specs.Examples.{armText, FromArm, armCalls, looked, Examples}
 use Rattle.panel.proofs.Laws.Calls.{heard-whole}
-use Rattle.panel.proofs.Laws.Readings.{begins-one, one-step}
+use Rattle.history.proofs.Laws.Readings.{begins-one, one-step}
 use Rattle.panel.proofs.Laws.Contents.{pose-short, value-bytes}
 use Rattle.panel.proofs.Laws.Faults.{panel-changed}
 use Rattle.panel.proofs.Laws.Checked.{begun-label, begun-value}
@@ -74,7 +70,8 @@ module _ (m : Message) (f : FromArm m) where
   short : length (valueFor m) ≤ 48
   short = pose-short (m .content) deepest (f .well .content) (inl (f .is-transform))
 
-  shown : (a : List ℕ → Answer) (now : ℕ) → answerTo (heardPanel (valueOf (valueFor m))) (look 0 now) ≡ a (valueFor m) → looked (armCalls m) now ≡ a (valueFor m)
+  shown : (a : List ℕ → Answer) (now : ℕ) → answerTo (heardPanel (valueOf (valueFor m))) (look 0 now) ≡ a (valueFor m)
+      → looked (armCalls m) now ≡ a (valueFor m)
   shown a now e = ap (λ (p : Panel). answerTo p (look 0 now)) heard-panel ∙ e
 
 pub examples : Examples

@@ -1,14 +1,12 @@
--- The walks over the table, and what each call gives, check by check; then demand 3 from the bottom up: what the bytes of a message call
--- are, what a tile holds of them, how table and book, and tile and history, stay tied from call to call.
+-- The walks over the table, and what each call gives, check by check; then demand 3 from the bottom up: labels, contents and faults of a
+-- panel, its agreement with the book place by place, what a tile keeps of the history, and how one call more leaves both.
 pub mod Table
 pub mod Calls
-pub mod Tests
-pub mod Readings
 pub mod Labels
 pub mod Contents
 pub mod Faults
-pub mod Tied
-pub mod Past
+pub mod Agreement
+pub mod History
 pub mod Checked
 pub mod Step
 pub mod Demand3

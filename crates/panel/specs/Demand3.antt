@@ -41,9 +41,8 @@ pub record Claim (R : Reader) (cs : List Call) : Type 0 where
   pub padded : (i now : ℕ) → Padded (lookOf (panelAfter cs) i now .value)
 
 pub record Demand3 : Type 0 where
+  -- with any reader of demand 2; that there is one, and only one, is `Readers` of crate history
   pub claim : (R : Reader) (cs : List Call) → Each OfBytes cs → Claim R cs
-  -- there is a reader of demand 2
-  pub reader : Reader
   -- a refused call gives the panel back unchanged, and so does every look, for every panel
   pub refused : (p : Panel) (c : Call) → (numberOf (answerTo p c) ≡ 0 → ⊥) → panelNext p c ≡ p
   pub looked : (p : Panel) (i now : ℕ) → panelNext p (look i now) ≡ p

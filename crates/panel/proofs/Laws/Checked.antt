@@ -1,38 +1,34 @@
 -- The panel's checks are the book's.
-use Prim.Native.Nat.{ℕ, zero, suc, _≤_}
-use mathlib.Core.Path.{_≡_, refl, ap, ap₂, sym, _∙_}
-use mathlib.Core.Bool.{Bool, true, false, cond, _&&_}
+use Prim.Native.Nat.{ℕ, zero, suc}
+use mathlib.Core.Path.{_≡_, refl, ap, ap₂, _∙_}
+use mathlib.Core.Bool.{Bool, true, cond}
 use mathlib.Core.List.{List}
 use native.Mathlib.Omega.{arith}
-use lib.Dec.{leb, ltb}
-use lib.ListN.{length, getD}
-use borrow.Author.Tests.{lt-ltb, le-ltb}
+use lib.Dec.{leb}
+use lib.ListN.{length}
 use Rattle.fields.specs.Bytes.{Bytes}
 use Rattle.fields.specs.Lists.{any}
 use Rattle.fields.specs.Checks.{orElse}
-use Rattle.fields.proofs.Laws.Checks.{else-first, else-second, cond-pass}
+use Rattle.fields.proofs.Laws.Checks.{cond-pass}
 use Rattle.content.specs.Tree.{typeText}
-use Rattle.message.specs.declared.Answer.{Answer}
-use Rattle.message.specs.Message.{Message, Parts, WellFormed, encode}
+use Rattle.message.specs.Message.{Message, Parts}
 use Rattle.message.specs.Check.{readOf}
 use Rattle.message.specs.Demand2.{Begins}
 use Rattle.message.proofs.Laws.Stream.{read-number}
 use Rattle.message.proofs.Laws.Messages.{demand-2}
 use Rattle.history.specs.Calls.{Call, add, linkUp, linkDown, message, look, OfBytes}
 use Rattle.history.specs.Reading.{Reading, Reads, none, more, one, Reader}
-use Rattle.history.specs.Summary.{Entry, Summary, tileIn, isThere, tileAt, isOf, carries, isAllowed, allowedFault, clockFault, isFull, readingNumber, numberOn}
+use Rattle.history.specs.Summary.{Summary, isThere, tileAt, isOf, carries, isAllowed, allowedFault, clockFault, isFull, readingNumber, numberOn}
 use Rattle.history.specs.History.{valueFor}
-use Rattle.panel.specs.declared.Value.{Value}
 use Rattle.panel.specs.declared.Label.{Label}
-use Rattle.panel.specs.declared.Tile.{Tile}
 use Rattle.panel.specs.declared.Panel.{Panel}
-use Rattle.panel.specs.Tiles.{valueOf, labelOf, noTile, isTile, freeIn}
+use Rattle.panel.specs.Tiles.{valueOf, labelOf, isTile, freeIn}
 use Rattle.panel.specs.Calls.{addFault, labelIn, valueIn, heardFault, messageFault, lookFault}
 use Rattle.panel.proofs.Laws.Calls.{heard-unread, heard-left-over, heard-whole}
-use Rattle.panel.proofs.Laws.Readings.{begins-one, none-number, one-step, more-step}
+use Rattle.history.proofs.Laws.Readings.{begins-one, none-number, one-step, more-step}
 use Rattle.panel.proofs.Laws.Labels.{allowed, allowed-texts}
 use Rattle.panel.proofs.Laws.Faults.{faultOn}
-use Rattle.panel.proofs.Laws.Tied.{Seat, Tied, seat-used, seat-is, any-alike, next-alike, there-alike}
+use Rattle.panel.proofs.Laws.Agreement.{Agrees, place-used, place-is, any-alike, next-alike, there-alike}
 
 -- checks whose first is the same
 else-same : (a x y : ℕ) → (a ≡ 0 → x ≡ y) → orElse a x ≡ orElse a y
@@ -51,9 +47,9 @@ begun-label s m b = ap (λ (x : Parts). labelOf (x .typeText) (x .deviceName)) (
 pub begun-value : (s : List ℕ) (m : Message) → Begins s m → valueIn s (readOf s) ≡ valueOf (valueFor m)
 begun-value s m b = ap (λ (x : Parts). valueOf (x .sections .content)) (demand-2 .handed-out s m b)
 
-module _ (p : Panel) (b : Summary) (T : Tied p b) where
+module _ (p : Panel) (b : Summary) (T : Agrees p b) where
   pub next-free : freeIn (p .tiles) ≡ length (b .tiles)
-  next-free = next-alike (p .tiles) (b .tiles) (λ i. seat-used (T .seats i))
+  next-free = next-alike (p .tiles) (b .tiles) (λ i. place-used (T .places i))
 
   -- the reader's number, 12, 13
   heard-same : (s : List ℕ) (r : Reading) → Bytes s → Reads s r → heardFault (p .tiles) s (readOf s) ≡ readingNumber (b .tiles) r
@@ -65,7 +61,7 @@ module _ (p : Panel) (b : Summary) (T : Tied p b) where
       ∙ ap (λ (t : Bool). cond t 0 13)
       (ap (λ (l : Label). any (isTile l) (p .tiles)) (begun-label s m g)
       ∙ any-alike (p .tiles) (b .tiles) (isTile (labelOf (typeText (m .content)) (m .deviceName))) (carries m) refl
-      (λ i. seat-is (typeText (m .content)) (m .deviceName) (w .texts) (T .seats i)))
+      (λ i. place-is (typeText (m .content)) (m .deviceName) (w .texts) (T .places i)))
 
   add-same : (t n : List ℕ) (h : ℕ)
       → addFault p t n h ≡ orElse (allowedFault t n h) (orElse (cond (any (isOf t n) (b .tiles)) 17 0) (cond (isFull (b .tiles)) 18 0))
@@ -75,7 +71,7 @@ module _ (p : Panel) (b : Summary) (T : Tied p b) where
       (λ e.
       let w = allowed-texts t n (allowed t n h (allowed-passed t n h e)) in
       ap₂ (λ (x : Bool) (k : ℕ). orElse (cond x 17 0) (cond (leb 16 k) 18 0))
-      (any-alike (p .tiles) (b .tiles) (isTile (labelOf t n)) (isOf t n) refl (λ i. seat-is t n w (T .seats i)))
+      (any-alike (p .tiles) (b .tiles) (isTile (labelOf t n)) (isOf t n) refl (λ i. place-is t n w (T .places i)))
       next-free)
 
   message-same : (R : Reader) (t : ℕ) (s : List ℕ) → Bytes s → messageFault p t s ≡ numberOn R b (message t s)

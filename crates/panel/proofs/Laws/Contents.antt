@@ -2,21 +2,18 @@
 use Prim.Native.Nat.{ℕ, _*_, _-_, _≤_}
 use mathlib.Core.Path.{_≡_, refl, sym, ap, _∙_}
 use mathlib.Core.Logic.{_⊎_, ⊎-elim}
-use mathlib.Core.Bool.{Bool, true, false}
-use mathlib.Core.List.{List, [], _++_}
+use mathlib.Core.Bool.{false}
+use mathlib.Core.List.{List, _++_}
 use native.Mathlib.Omega.{arith}
 use lib.ListN.{length, take, replicate}
 use lib.Seq.{take-at}
-use Rattle.fields.specs.Bytes.{same, sized}
+use Rattle.fields.specs.Bytes.{same}
 use Rattle.fields.proofs.Laws.Bytes.{same-differ, sized-fits}
-use Rattle.pose.specs.Words.{wordBytes}
-use Rattle.pose.specs.Transform.{WellTransform}
-use Rattle.pose.specs.Position.{PositionCount, three, six, seven, WellPosition}
+use Rattle.pose.specs.Position.{PositionCount, three, six, seven}
 use Rattle.pose.proofs.Laws.{length-wordBytes}
 use Rattle.content.specs.Kinds.{transformText, positionText, imageText, bindText}
 use Rattle.content.specs.Tree.{Content, transform, position, image, bind, other, typeText}
 use Rattle.content.specs.Tree as tree
-use Rattle.panel.specs.declared.Value.{Value}
 use Rattle.panel.specs.Tiles.{valueOf}
 use Rattle.panel.specs.Answers.{valueBytes, Padded}
 

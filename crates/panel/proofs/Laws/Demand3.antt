@@ -1,20 +1,20 @@
 -- Demand 3.
-use Prim.Native.Nat.{ℕ, zero, suc, _-_, _<_, _≤_}
+use Prim.Native.Nat.{ℕ, zero, suc, _-_, _≤_}
 use mathlib.Core.Path.{_≡_, refl, ap, ap₂, sym, subst, _∙_}
 use mathlib.Core.Logic.{_⊎_, inl, inr, ⊎-elim}
 use mathlib.Core.Bool.{Bool, true, false, cond, _&&_, false≢true}
 use mathlib.Core.List.{List, [], _∷_, _++_, append-nil, append-assoc, foldl-append}
 use native.Mathlib.Omega.{arith}
 use lib.Dec.{eqb, leb}
-use lib.ListN.{length, take, getD, replicate}
+use lib.ListN.{take, getD, replicate}
 use borrow.Author.Tests.{leb-true, leb-false}
 use Rattle.fields.specs.Lists.{Each}
 use Rattle.fields.proofs.Laws.Checks.{zero-else, cond-pass}
 use Rattle.message.specs.Message.{Message}
 use Rattle.history.specs.Calls.{Call, add, linkUp, linkDown, message, look, OfBytes, Answer, refused, accepted, added, empty, green, grey}
 use Rattle.history.specs.Reading.{Reader}
-use Rattle.history.specs.Summary.{Summary, tileAt, isThere, clockFault, numberOn, summaryOf}
-use Rattle.history.specs.History.{callAt, holdTimeOf, valueFor, IsGreen, IsGrey, Counted, Unlinked, Current, Silent, Last, OfLast, Shown, Accepted, Answers}
+use Rattle.history.specs.Summary.{tileAt, isThere, numberOn, summaryOf}
+use Rattle.history.specs.History.{callAt, holdTimeOf, valueFor, Counted, Unlinked, Current, Silent, Last, Shown, Accepted, Answers}
 use Rattle.panel.specs.declared.Tile.{Tile}
 use Rattle.panel.specs.declared.Panel.{Panel}
 use Rattle.panel.specs.declared.LookResult.{LookResult}
@@ -22,15 +22,14 @@ use Rattle.panel.specs.declared.LookAnswer.the-variants.{Empty, Green, G
 use Rattle.panel.specs.Tiles.{noValue, freeTile, noTile}
 use Rattle.panel.specs.Calls.{freshPanel, lookFault, lookedAt, refusedLook, lookOf}
 use Rattle.panel.specs.Answers.{valueBytes, Padded, lookAnswer}
-use Rattle.panel.specs.Demand3.{answerTo, panelNext, panelAfter, Claim, Demand3}
-use Rattle.panel.proofs.Laws.Tests.{by-test, by-zero, cond-cases}
-use Rattle.panel.proofs.Laws.Readings.{a-reader}
+use Rattle.panel.specs.Demand3.{answerTo, panelNext, panelAfter, Demand3}
+use Rattle.fields.proofs.Laws.Tests.{by-test, cond-cases}
 use Rattle.panel.proofs.Laws.Contents.{value-bytes, value-padded}
 use Rattle.panel.proofs.Laws.Faults.{faultOn, acceptedBy, answer-refused, answer-accepted, refused-kept, panel-looked}
-use Rattle.panel.proofs.Laws.Tied.{fresh-tied, seat-hold}
-use Rattle.panel.proofs.Laws.Past.{Kept, silent, heard}
+use Rattle.panel.proofs.Laws.Agreement.{fresh-agrees, place-hold}
+use Rattle.panel.proofs.Laws.History.{Kept, silent, heard}
 use Rattle.panel.proofs.Laws.Checked.{next-free, fault-same}
-use Rattle.panel.proofs.Laws.Step.{Good, step}
+use Rattle.panel.proofs.Laws.Step.{Invariant, step}
 
 -- ---- what is known after any sequence of calls
 
@@ -39,11 +38,11 @@ heard-fresh zero i = refl
 heard-fresh (suc n) zero = refl
 heard-fresh (suc n) (suc i) = heard-fresh n i
 
-fresh-good : (R : Reader) → Good R [] (panelAfter [])
+fresh-good : (R : Reader) → Invariant R [] (panelAfter [])
 unfolding summaryOf panelAfter
 fresh-good R =
     record {
-      tied = fresh-tied;
+      agrees = fresh-agrees;
       known = λ i k t m d. absurd (omega (arith, d .within));
       kept = λ i. silent (heard-fresh 16 i) (λ k t m d. omega (arith, d .within));
     }
@@ -52,14 +51,15 @@ panel-more : (cs : List Call) (c : Call) → panelAfter (cs ++ (c ∷ [])) ≡ p
 unfolding panelAfter
 panel-more cs c = foldl-append panelNext freshPanel cs (c ∷ [])
 
-good-from : (R : Reader) (done todo : List Call) → Each OfBytes todo → Good R done (panelAfter done) → Good R (done ++ todo) (panelAfter (done ++ todo))
-good-from R done [] o G = subst (λ (l : List Call). Good R l (panelAfter l)) (sym (append-nil done)) G
+good-from : (R : Reader) (done todo : List Call) → Each OfBytes todo → Invariant R done (panelAfter done)
+    → Invariant R (done ++ todo) (panelAfter (done ++ todo))
+good-from R done [] o G = subst (λ (l : List Call). Invariant R l (panelAfter l)) (sym (append-nil done)) G
 good-from R done (c ∷ todo) o G =
-    subst (λ (l : List Call). Good R l (panelAfter l)) (append-assoc done (c ∷ []) todo)
+    subst (λ (l : List Call). Invariant R l (panelAfter l)) (append-assoc done (c ∷ []) todo)
     (good-from R (done ++ (c ∷ [])) todo (o .1)
-    (subst (Good R (done ++ (c ∷ []))) (sym (panel-more done c)) (step R done (panelAfter done) G c (o .0))))
+    (subst (Invariant R (done ++ (c ∷ []))) (sym (panel-more done c)) (step R done (panelAfter done) G c (o .0))))
 
-pub good : (R : Reader) (cs : List Call) → Each OfBytes cs → Good R cs (panelAfter cs)
+pub good : (R : Reader) (cs : List Call) → Each OfBytes cs → Invariant R cs (panelAfter cs)
 good R cs o = good-from R [] cs o (fresh-good R)
 
 -- ---- what a tile shows
@@ -172,20 +172,20 @@ module _ (R : Reader) (cs : List Call) (i now : ℕ) where
 
 -- ---- what a call answers
 
-module _ (R : Reader) (cs : List Call) (p : Panel) (G : Good R cs p) where
+module _ (R : Reader) (cs : List Call) (p : Panel) (G : Invariant R cs p) where
   look-passed : (i now : ℕ) → numberOn R (summaryOf R cs) (look i now) ≡ 0 → isThere (tileAt (summaryOf R cs) i) ≡ true
   look-passed i now z = cond-pass (isThere (tileAt (summaryOf R cs) i)) 18 0 (zero-else _ _ z .0) .0
 
   accepted-answer : (c : Call) → numberOn R (summaryOf R cs) c ≡ 0 → Accepted R cs c (acceptedBy p c)
-  accepted-answer (add t n h) z = ap added (next-free p (summaryOf R cs) (G .tied))
+  accepted-answer (add t n h) z = ap added (next-free p (summaryOf R cs) (G .agrees))
   accepted-answer (linkUp t) z = refl
   accepted-answer (linkDown t) z = refl
   accepted-answer (message t s) z = refl
-  accepted-answer (look i now) z = tile-shown R cs i now p _ (seat-hold (G .tied .seats i) (look-passed i now z)) (G .kept i)
+  accepted-answer (look i now) z = tile-shown R cs i now p _ (place-hold (G .agrees .places i) (look-passed i now z)) (G .kept i)
 
   pub answers : (c : Call) → OfBytes c → Answers R cs c (answerTo p c)
   answers c o =
-      let e : faultOn p c ≡ numberOn R (summaryOf R cs) c = fault-same p (summaryOf R cs) (G .tied) R c o in
+      let e : faultOn p c ≡ numberOn R (summaryOf R cs) c = fault-same p (summaryOf R cs) (G .agrees) R c o in
       record {
         refusal = λ z. answer-refused p c (λ y. z (sym e ∙ y)) ∙ ap refused e;
         acceptance = λ z. subst (Accepted R cs c) (sym (answer-accepted p c (e ∙ z))) (accepted-answer c z);
@@ -225,7 +225,6 @@ demand-3 =
             after = λ i now. answers R cs (panelAfter cs) (good R cs o) (look i now) tt;
             padded = look-padded R cs (panelAfter cs) (good R cs o);
           };
-      reader = a-reader;
       refused = refused-kept;
       looked = panel-looked;
     }

@@ -2,7 +2,6 @@
 use Prim.Native.Nat.{ℕ, _-_}
 use mathlib.Core.Path.{_≡_, refl, sym, ap, _∙_}
 use mathlib.Core.Bool.{Bool, true, false, cond, _&&_}
-use mathlib.Core.List.{List}
 use lib.Dec.{leb}
 use lib.ListN.{getD}
 use borrow.Author.Tests.{ne-eqb}
@@ -20,7 +19,7 @@ use Rattle.panel.specs.Tiles.{noValue, labelOf, noTile, newTile, freeIn}
 use Rattle.panel.specs.Calls.{addFault, entered, linked, messageFault, received, lookFault, lookedAt}
 use Rattle.panel.specs.Answers.{addAnswer, callAnswer, lookAnswer}
 use Rattle.panel.specs.Demand3.{answerTo, panelNext}
-use Rattle.panel.proofs.Laws.Tests.{by-zero}
+use Rattle.fields.proofs.Laws.Tests.{by-zero}
 use Rattle.panel.proofs.Laws.Calls.{add-refused, add-accepted, link-refused, link-accepted, message-refused, message-accepted, look-refused, look-accepted}
 
 abbrev pub faultOn : Panel → Call → ℕ

@@ -2,7 +2,7 @@
 use Prim.Native.Nat.{ℕ, _≤_}
 use mathlib.Core.Path.{_≡_, refl, sym, ap, ap₂, subst, _∙_}
 use mathlib.Core.Logic.{_⊎_, inl, inr, ⊎-elim}
-use mathlib.Core.Bool.{Bool, true, false, cond, _&&_, _||_}
+use mathlib.Core.Bool.{Bool, true, _&&_, _||_}
 use mathlib.Core.List.{List}
 use native.Mathlib.Omega.{arith}
 use lib.Dec.{leb}
@@ -10,7 +10,7 @@ use lib.ListN.{length}
 use borrow.Author.Tests.{leb-true}
 use Rattle.fields.specs.Bytes.{same, sized}
 use Rattle.fields.specs.Lists.{all}
-use Rattle.fields.specs.Text.{Text, isText}
+use Rattle.fields.specs.Text.{Text, isText, textBytes}
 use Rattle.fields.proofs.Laws.Bytes.{same-eq, same-refl, same-differ, not-same}
 use Rattle.fields.proofs.Laws.Checks.{and-split, or-split}
 use Rattle.fields.proofs.Laws.Text.{is-text, text-unique, textBytes-sized}
@@ -19,7 +19,7 @@ use Rattle.header.specs.Header.{WellTexts}
 use Rattle.history.specs.Summary.{Entry, isOf, isAllowed}
 use Rattle.panel.specs.declared.Label.{Label}
 use Rattle.panel.specs.Tiles.{labelOf}
-use Rattle.panel.proofs.Laws.Tests.{by-test}
+use Rattle.fields.proofs.Laws.Tests.{by-test}
 
 -- ---- an allowed tile
 
@@ -60,7 +60,10 @@ field-same : (w : ℕ) (a b : List ℕ) → Text a → Text b → length a ≤ w
 field-same w a b ta tb la lb =
     by-test (same a b)
     (λ e. ap (λ (x : List ℕ). same (sized w x) (sized w b)) (same-eq a b e) ∙ same-refl (sized w b) ∙ sym e)
-    (λ e. not-same (sized w a) (sized w b) (λ q. same-differ a b e (text-unique w a b ta tb la lb (textBytes-sized w a ∙ q ∙ sym (textBytes-sized w b)))) ∙ sym e)
+    (λ e. not-same (sized w a) (sized w b) (λ q. same-differ a b e (text-unique w a b ta tb la lb (fields q))) ∙ sym e)
+  where
+    fields : sized w a ≡ sized w b → textBytes w a ≡ textBytes w b
+    fields q = textBytes-sized w a ∙ q ∙ sym (textBytes-sized w b)
 
 -- do two labels say the same type and name?
 abbrev pub sameLabel : Label → Label → Bool

@@ -17,39 +17,39 @@ use Rattle.panel.specs.declared.Tile.{Tile}
 use Rattle.panel.specs.declared.Panel.{Panel}
 use Rattle.panel.specs.Tiles.{labelOf, freeTile, noTile, isTile, freeIn}
 use Rattle.panel.specs.Calls.{freshPanel}
-use Rattle.panel.proofs.Laws.Tests.{by-test, true-false}
-use Rattle.panel.proofs.Laws.Labels.{Allowed, allowed, allowed-texts, sameLabel, label-says}
+use Rattle.fields.proofs.Laws.Tests.{by-test, true-false}
+use Rattle.panel.proofs.Laws.Labels.{allowed, allowed-texts, sameLabel, label-says}
 
 -- the place holds what the book has under its number
-pub data Seat (x : Tile) : Option Entry → Type 0 where
-  empty : x .used ≡ false → x .heard ≡ false → Seat x none
+pub data PlaceAgrees (x : Tile) : Option Entry → Type 0 where
+  vacant : x .used ≡ false → x .heard ≡ false → PlaceAgrees x none
   taken : {e : Entry} → x .used ≡ true → x .label ≡ labelOf (e .typeText) (e .name) → x .«hold_time» ≡ e .holdTime
-      → isAllowed (e .typeText) (e .name) (e .holdTime) ≡ true → Seat x (some e)
+      → isAllowed (e .typeText) (e .name) (e .holdTime) ≡ true → PlaceAgrees x (some e)
 
-pub record Tied (p : Panel) (b : Summary) : Type 0 where
+pub record Agrees (p : Panel) (b : Summary) : Type 0 where
   pub clock : p .link .clock ≡ b .clock
   pub up : p .link .up ≡ b .up
-  pub places : length (p .tiles) ≡ 16
-  pub seats : (i : ℕ) → Seat (getD (p .tiles) i noTile) (tileAt b i)
+  pub size : length (p .tiles) ≡ 16
+  pub places : (i : ℕ) → PlaceAgrees (getD (p .tiles) i noTile) (tileAt b i)
 
 -- ---- what the two of one seat agree on
 
-pub seat-used : {x : Tile} {o : Option Entry} → Seat x o → x .used ≡ isThere o
-seat-used (empty u h) = u
-seat-used (taken u l h a) = u
+pub place-used : {x : Tile} {o : Option Entry} → PlaceAgrees x o → x .used ≡ isThere o
+place-used (vacant u h) = u
+place-used (taken u l h a) = u
 
 -- an empty place has heard nothing
-pub seat-heard : {x : Tile} {o : Option Entry} → Seat x o → x .used ≡ false → x .heard ≡ false
-seat-heard (empty u h) f = h
-seat-heard {x} (taken u l h a) f = true-false (x .used) u f
+pub place-heard : {x : Tile} {o : Option Entry} → PlaceAgrees x o → x .used ≡ false → x .heard ≡ false
+place-heard (vacant u h) f = h
+place-heard {x} (taken u l h a) f = true-false (x .used) u f
 
-pub seat-hold : {x : Tile} {o : Option Entry} → Seat x o → isThere o ≡ true → x .«hold_time» ≡ holdTimeOf o
-seat-hold (empty u h) t = true-false false t refl
-seat-hold (taken u l h a) t = h
+pub place-hold : {x : Tile} {o : Option Entry} → PlaceAgrees x o → isThere o ≡ true → x .«hold_time» ≡ holdTimeOf o
+place-hold (vacant u h) t = true-false false t refl
+place-hold (taken u l h a) t = h
 
-pub seat-is : {x : Tile} {o : Option Entry} (t n : List ℕ) → WellTexts t n → Seat x o → isTile (labelOf t n) x ≡ passes (isOf t n) o
-seat-is {x} t n w (empty u h) = ap (λ (y : Bool). y && sameLabel (x .label) (labelOf t n)) u
-seat-is {x} t n w (taken {e} u l h a) =
+pub place-is : {x : Tile} {o : Option Entry} (t n : List ℕ) → WellTexts t n → PlaceAgrees x o → isTile (labelOf t n) x ≡ passes (isOf t n) o
+place-is {x} t n w (vacant u h) = ap (λ (y : Bool). y && sameLabel (x .label) (labelOf t n)) u
+place-is {x} t n w (taken {e} u l h a) =
     ap₂ (λ (y : Bool) (k : Label). y && sameLabel k (labelOf t n)) u l
     ∙ label-says t n e w (allowed-texts (e .typeText) (e .name) (allowed (e .typeText) (e .name) (e .holdTime) a))
 
@@ -82,14 +82,14 @@ tile-past (x ∷ xs) zero h = absurd (omega arith)
 tile-past (x ∷ xs) (suc i) h = tile-past xs i (omega arith)
 
 -- the numbers that tiles have
-pub there-alike : (p : Panel) (b : Summary) → Tied p b → (i : ℕ) → (ltb i 16 && getD (p .tiles) i noTile .used) ≡ isThere (tileAt b i)
+pub there-alike : (p : Panel) (b : Summary) → Agrees p b → (i : ℕ) → (ltb i 16 && getD (p .tiles) i noTile .used) ≡ isThere (tileAt b i)
 there-alike p b T i =
     let x : Tile = getD (p .tiles) i noTile in
     by-test (ltb i 16)
-    (λ q. ap (λ (t : Bool). t && x .used) q ∙ seat-used (T .seats i))
+    (λ q. ap (λ (t : Bool). t && x .used) q ∙ place-used (T .places i))
     (λ q.
     ap (λ (t : Bool). t && x .used) q
-    ∙ sym (sym (seat-used (T .seats i)) ∙ ap (λ (y : Tile). y .used) (tile-past (p .tiles) i (omega (arith, ltb-false i 16 q, T .places)))))
+    ∙ sym (sym (place-used (T .places i)) ∙ ap (λ (y : Tile). y .used) (tile-past (p .tiles) i (omega (arith, ltb-false i 16 q, T .size)))))
 
 -- ---- a tile more in the book
 
@@ -101,10 +101,10 @@ tile-more (x ∷ es) e (suc i) = rw (eqb·suc-suc i (length es)) (tile-more es e
 
 -- ---- nothing yet
 
-free-at : (n i : ℕ) → Seat (getD (replicate n freeTile) i noTile) none
-free-at zero i = empty refl refl
-free-at (suc n) zero = empty refl refl
+free-at : (n i : ℕ) → PlaceAgrees (getD (replicate n freeTile) i noTile) none
+free-at zero i = vacant refl refl
+free-at (suc n) zero = vacant refl refl
 free-at (suc n) (suc i) = free-at n i
 
-pub fresh-tied : Tied freshPanel freshSummary
-fresh-tied = record { clock = refl; up = refl; places = refl; seats = free-at 16 }
+pub fresh-agrees : Agrees freshPanel freshSummary
+fresh-agrees = record { clock = refl; up = refl; size = refl; places = free-at 16 }

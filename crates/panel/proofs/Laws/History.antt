@@ -6,17 +6,17 @@ use mathlib.Core.Bool.{true, false}
 use mathlib.Core.List.{List, [], _∷_, _++_, foldl-append}
 use native.Mathlib.Omega.{arith}
 use lib.Dec.{ltb}
-use lib.ListN.{length, take, getD, length-append, List·getD-append}
+use lib.ListN.{length, length-append, List·getD-append}
 use lib.Seq.{take-append-le, take-append-seam, getD-append-seam}
 use borrow.Author.Tests.{ltb-true, ltb-false}
 use Rattle.message.specs.Message.{Message, encode}
 use Rattle.history.specs.Calls.{Call, message, look}
 use Rattle.history.specs.Reading.{Reader}
-use Rattle.history.specs.Summary.{Summary, numberOn, next, summaryOf, freshSummary}
+use Rattle.history.specs.Summary.{Summary, next, summaryOf, freshSummary}
 use Rattle.history.specs.History.{callAt, valueFor, summaryBefore, CountsFor, Counted, Linked, Unlinked, Silent}
 use Rattle.panel.specs.declared.Tile.{Tile}
 use Rattle.panel.specs.Tiles.{valueOf, relinked}
-use Rattle.panel.proofs.Laws.Tests.{by-test, true-false}
+use Rattle.fields.proofs.Laws.Tests.{by-test, true-false}
 
 module _ (R : Reader) where
   pub summary-more : (cs : List Call) (c : Call) → summaryOf R (cs ++ (c ∷ [])) ≡ next R (summaryOf R cs) c
@@ -143,8 +143,8 @@ module _ (R : Reader) where
         heard k m h (counted-more i k (x .clock) m d) v f (last-still i k (x .clock) n o) (inr (refl, linked-now k (d .within) l))
 
     -- a message that counts for the tile is its last from now on
-    pub hear-kept : (i t : ℕ) (m : Message) (x : Tile) → x .heard ≡ true → x .clock ≡ t → x .value ≡ valueOf (valueFor m) → length (valueFor m) ≤ 48
-        → x .«since_link» ≡ true → CountsFor R (summaryOf R cs) c i t m
+    pub hear-kept : (i t : ℕ) (m : Message) (x : Tile) → x .heard ≡ true → x .clock ≡ t → x .value ≡ valueOf (valueFor m)
+        → length (valueFor m) ≤ 48 → x .«since_link» ≡ true → CountsFor R (summaryOf R cs) c i t m
         → ((j u : ℕ) (n : Message) → Counted R cs i j u n → u ≤ t) → Kept longer i x
     hear-kept i t m x h e v f g d o =
         heard (length cs) m h (subst (λ (u : ℕ). Counted R longer i (length cs) u m) (sym e) (counted-now i t m d)) v f

@@ -1,4 +1,5 @@
--- The reader's answer to bytes that are one message, a message and more, or no message's front; and a reader of demand 2.
+-- The reader's answer to bytes that are one message, a message and more, or no message's front; there is a reader of demand 2, and any two
+-- agree.
 use Prim.Native.Nat.{ℕ, zero, _+_, _<_}
 use mathlib.Core.Path.{_≡_, refl, sym, ap, _∙_}
 use mathlib.Core.Bool.{Bool, true, false}
@@ -16,8 +17,8 @@ use Rattle.message.specs.Check as check
 use Rattle.message.specs.Check.{readOf}
 use Rattle.message.specs.Demand2.{Begins}
 use Rattle.message.proofs.Laws.Messages.{demand-2}
-use Rattle.history.specs.Reading.{Reading, no-message, left-over, one-message, Reads, none, more, one, Reader}
-use Rattle.panel.proofs.Laws.Tests.{by-zero, true-false}
+use Rattle.history.specs.Reading.{Reading, no-message, left-over, one-message, Reads, none, more, one, Reader, Readers}
+use Rattle.fields.proofs.Laws.Tests.{by-zero, true-false}
 
 -- the whole of the bytes is the message
 pub begins-one : (s : List ℕ) (m : Message) → WellFormed m → encode m ≡ s → Begins s m
@@ -74,5 +75,28 @@ unfolding reading
 reading-reads s true e b = read-bytes s (all-bytes s e) .1
 reading-reads s false e b = true-false (allBytes s) (bytes-all s b) e
 
-pub a-reader : Reader
+a-reader : Reader
 a-reader = record { read = λ s. reading s (allBytes s) refl; reads = λ s. reading-reads s (allBytes s) refl }
+
+-- ---- any two agree
+
+-- a message with more after it is not the whole
+not-whole : (s : List ℕ) (m n : Message) (b : Begins s m) → 0 < length (b .rest) → WellFormed n → encode n ≡ s → ⊥
+not-whole s m n b h w e =
+    let q : readOf s .step ≡ length s = one-step s n w e in
+    omega (arith, more-step s m b h, q)
+
+same-reading : (s : List ℕ) (q r : Reading) → Reads s q → Reads s r → q ≡ r
+same-reading s q r (none n) (none n′) = refl
+same-reading s q r (none n) (more m b h) = absurd (n m b)
+same-reading s q r (none n) (one m w e) = absurd (n m (begins-one s m w e))
+same-reading s q r (more m b h) (none n) = absurd (n m b)
+same-reading s q r (more m b h) (more m′ b′ h′) = refl
+same-reading s q r (more m b h) (one n w e) = absurd (not-whole s m n b h w e)
+same-reading s q r (one m w e) (none n) = absurd (n m (begins-one s m w e))
+same-reading s q r (one n w e) (more m b h) = absurd (not-whole s m n b h w e)
+same-reading s q r (one m w e) (one n v f) = ap one-message (demand-2 .only-one s m n (begins-one s m w e) (begins-one s n v f))
+
+pub readers : Readers
+readers =
+    record { some = a-reader; agree = λ P Q s b. same-reading s (P .read s) (Q .read s) (P .reads s b) (Q .reads s b) }

@@ -1,0 +1,2 @@
+-- What the bytes of message calls are.
+pub mod Laws
