@@ -1,5 +1,5 @@
 -- Tests and rules at each element of a list, and the bytes of its elements one after the other.
-use Prim.Native.Nat.{ℕ, _+_, _≤_, _<_}
+use Prim.Native.Nat.{ℕ, zero, suc, _+_, _≤_, _<_}
 use mathlib.Core.Path.{_≡_, refl, sym, ap, _∙_}
 use mathlib.Core.Bool.{Bool, true, false}
 use mathlib.Core.List.{List, [], _∷_, _++_, append-assoc, append-nil, map}
@@ -49,6 +49,12 @@ module _ {A : Type 0} (p : A → Bool) (P : A → Type 0) where
   unfolding all
   each-all f [] h = refl
   each-all f (x ∷ xs) h = and-join (p x) (all p xs) (f x (h .0)) (each-all f xs (h .1))
+
+-- the rule of the first elements
+pub each-take : {A : Type 0} (P : A → Type 0) (k : ℕ) (xs : List A) → Each P xs → Each P (take k xs)
+each-take P zero xs h = tt
+each-take P (suc k) [] h = tt
+each-take P (suc k) (x ∷ xs) h = (h .0, each-take P k xs (h .1))
 
 -- the rule of an element in the middle
 pub each-middle : {A : Type 0} (P : A → Type 0) (before : List A) (x : A) (after : List A) → Each P (before ++ (x ∷ after)) → P x

@@ -38,11 +38,11 @@ fault-first a b k e = ap (λ (x : ℕ). orElse x b) e
 
 -- ---- check 15
 
-pub clock-late : (clock given : ℕ) → given < clock → clockFault clock given ≡ 15
+clock-late : (clock given : ℕ) → given < clock → clockFault clock given ≡ 15
 unfolding clockFault
 clock-late clock given h = ap (λ (t : Bool). cond t 15 0) (lt-ltb given clock h)
 
-pub clock-pass : (clock given : ℕ) → clock ≤ given → clockFault clock given ≡ 0
+clock-pass : (clock given : ℕ) → clock ≤ given → clockFault clock given ≡ 0
 unfolding clockFault
 clock-pass clock given h = ap (λ (t : Bool). cond t 15 0) (le-ltb given clock h)
 

@@ -9,6 +9,7 @@ use lib.Dec.{eqb, leb}
 use lib.ListN.{take, getD, replicate}
 use borrow.Author.Tests.{leb-true, leb-false}
 use Rattle.fields.specs.Lists.{Each}
+use Rattle.fields.proofs.Laws.Lists.{each-take}
 use Rattle.fields.proofs.Laws.Checks.{zero-else, cond-pass}
 use Rattle.message.specs.Message.{Message}
 use Rattle.history.specs.Calls.{Call, add, linkUp, linkDown, message, look, OfBytes, Answer, refused, accepted, added, empty, green, grey}
@@ -206,11 +207,6 @@ module _ (R : Reader) (cs : List Call) (p : Panel) (G : Invariant R cs p) where
 
 -- ---- demand 3
 
-each-take : (k : ℕ) (cs : List Call) → Each OfBytes cs → Each OfBytes (take k cs)
-each-take zero cs o = tt
-each-take (suc k) [] o = tt
-each-take (suc k) (c ∷ cs) o = (o .0, each-take k cs (o .1))
-
 each-at : (k : ℕ) (cs : List Call) → Each OfBytes cs → OfBytes (callAt cs k)
 each-at k [] o = tt
 each-at zero (c ∷ cs) o = o .0
@@ -221,7 +217,7 @@ demand-3 =
     record {
       claim = λ R cs o.
           record {
-            inside = λ k l. answers R (take k cs) (panelAfter (take k cs)) (good R (take k cs) (each-take k cs o)) (callAt cs k) (each-at k cs o);
+            inside = λ k l. answers R (take k cs) (panelAfter (take k cs)) (good R (take k cs) (each-take OfBytes k cs o)) (callAt cs k) (each-at k cs o);
             after = λ i now. answers R cs (panelAfter cs) (good R cs o) (look i now) tt;
             padded = look-padded R cs (panelAfter cs) (good R cs o);
           };

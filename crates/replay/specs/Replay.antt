@@ -1,0 +1,101 @@
+-- What running a script gives: by the panel's definitions, and in the words of demand 3.
+use Prim.Native.Nat.{ℕ, zero, suc, _<_, _≤_}
+use mathlib.Core.Path.{_≡_}
+use mathlib.Core.Bool.{true, false, cond}
+use mathlib.Core.List.{List, [], _∷_}
+use mathlib.Core.Option.{Option, none, some}
+use lib.Dec.{eqb}
+use lib.ListN.{length, take}
+use Rattle.history.specs.Calls.{Call, add, linkUp, linkDown, message, look, Answer, refused, accepted, added, empty, green, grey}
+use Rattle.history.specs.Reading.{Reader}
+use Rattle.history.specs.History.{callAt, Answers}
+use Rattle.panel.specs.declared.Panel.{Panel}
+use Rattle.panel.specs.declared.AddResult.{AddResult}
+use Rattle.panel.specs.declared.AddAnswer.{AddAnswer}
+use Rattle.panel.specs.declared.AddAnswer.the-variants as add-answer
+use Rattle.panel.specs.declared.CallResult.{CallResult}
+use Rattle.panel.specs.declared.LookResult.{LookResult}
+use Rattle.panel.specs.declared.LookAnswer.{LookAnswer}
+use Rattle.panel.specs.declared.LookAnswer.the-variants as look-answer
+use Rattle.panel.specs.Tiles.{noValue}
+use Rattle.panel.specs.Calls.{freshPanel, addOf, linkOf, messageOf, lookOf}
+use Rattle.panel.specs.Answers.{valueBytes, Padded}
+use Rattle.panel.specs.Demand3.{panelNext, panelAfter}
+use Rattle.replay.specs.declared.CallAnswer.{CallAnswer}
+use Rattle.replay.specs.declared.CallAnswer.the-variants.{Accepted, Added, Empty, Green, Grey, Refused, NoCall}
+use Rattle.replay.specs.declared.Answered.{Answered}
+use Rattle.replay.specs.declared.Performed.{Performed}
+use Rattle.replay.specs.Script.{callsIn}
+
+-- ---- by the panel's definitions
+
+abbrev pub withoutValue : CallAnswer → Answered
+withoutValue a = record { answer = a; value = noValue }
+
+abbrev pub addedAs : AddAnswer → CallAnswer
+addedAs (add-answer.Added i) = Added i
+addedAs (add-answer.Refused n) = Refused n
+
+abbrev pub shownAs : LookAnswer → CallAnswer
+shownAs look-answer.Empty = Empty
+shownAs (look-answer.Green a) = Green a
+shownAs (look-answer.Grey a) = Grey a
+shownAs (look-answer.Refused n) = Refused n
+
+abbrev pub afterAdd : AddResult → Performed
+afterAdd r = record { panel = r .panel; answered = withoutValue (addedAs (r .answer)) }
+
+abbrev pub afterCall : CallResult → Performed
+afterCall r = record { panel = r .panel; answered = withoutValue (cond (eqb (r .number) 0) Accepted (Refused (r .number))) }
+
+abbrev pub afterLook : LookResult → Performed
+afterLook r = record { panel = r .panel; answered = record { answer = shownAs (r .answer); value = r .value } }
+
+-- one call on a panel
+unfoldable pub performed : Panel → Call → Performed
+performed p (add t n h) = afterAdd (addOf p t n h)
+performed p (linkUp t) = afterCall (linkOf true p t)
+performed p (linkDown t) = afterCall (linkOf false p t)
+performed p (message t s) = afterCall (messageOf p t s)
+performed p (look i now) = afterLook (lookOf p i now)
+
+abbrev pub noCall : Answered
+noCall = withoutValue NoCall
+
+-- the answer of the call at a place among calls that begin on this panel
+unfoldable pub answerAmong : ℕ → Panel → List Call → Answered
+answerAmong k p [] = noCall
+answerAmong zero p (c ∷ cs) = performed p c .answered
+answerAmong (suc k) p (c ∷ cs) = answerAmong k (panelNext p c) cs
+
+unfoldable pub answerAt : List ℕ → ℕ → Answered
+answerAt s k = answerAmong k freshPanel (callsIn s)
+
+unfoldable pub lookAfter : List ℕ → ℕ → ℕ → Answered
+lookAfter s i now = afterLook (lookOf (panelAfter (callsIn s)) i now) .answered
+
+-- ---- in the words of demand 3
+
+-- document 01's words for each answer, its number and values; none where there is no call
+abbrev pub saying : CallAnswer → List ℕ → Option Answer
+saying Accepted v = some accepted
+saying (Added i) v = some (added i)
+saying Empty v = some empty
+saying (Green a) v = some (green a v)
+saying (Grey a) v = some (grey a v)
+saying (Refused n) v = some (refused n)
+saying NoCall v = none
+
+-- r says what the book and the history say of the call c after the calls cs, with any reader of demand 2; past its value's bytes are zeros
+pub record Says (cs : List Call) (c : Call) (r : Answered) : Type 0 where
+  pub answer : Answer
+  pub says : saying (r .answer) (valueBytes (r .value)) ≡ some answer
+  pub answers : (R : Reader) → Answers R cs c answer
+  pub padded : Padded (r .value)
+
+pub record AnswersAt (s : List ℕ) (k : ℕ) (r : Answered) : Type 0 where
+  pub inside : k < length (callsIn s) → Says (take k (callsIn s)) (callAt (callsIn s) k) r
+  pub past : length (callsIn s) ≤ k → r .answer ≡ NoCall
+
+abbrev pub ShowsAfter : List ℕ → ℕ → ℕ → Answered → Type 0
+ShowsAfter s i now r = Says (callsIn s) (look i now) r
