@@ -1,7 +1,7 @@
 //! Document 01's numbers for what is refused.
 
-/// Why a message, a content, a look-up or a writer's call is refused; the discriminant is the
-/// number given back.
+/// Why a message, a content, a look-up, a writer's call or a call on the panel is refused; the
+/// discriminant is the number given back.
 #[derive(Clone, Copy, Debug, PartialEq, Eq, PartialOrd, Ord)]
 pub enum Fault {
     /// Fewer bytes than a header, or than the message that it announces.
@@ -21,6 +21,20 @@ pub enum Fault {
     Bind = 10,
     /// A BIND below the deepest level.
     Depth = 11,
+    /// Bytes after the one message.
+    LeftOver = 12,
+    /// No tile of the message's name and type.
+    NoTile = 13,
+    LinkDown = 14,
+    /// A clock earlier than the panel's.
+    Earlier = 15,
+    /// A tile's type, name or hold time.
+    Tile = 16,
+    /// A second tile of a name and type.
+    Twice = 17,
+    /// More tiles than the panel has.
+    Full = 18,
+    /// No such tile, child or key.
     NotFound = 19,
     Room = 20,
 }

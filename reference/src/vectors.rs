@@ -1,4 +1,5 @@
-//! The vector files: what the programs `vectors` and `listing` are given, and what they must write.
+//! The vector files: what the programs `vectors`, `listing` and `panel_scripts` are given, and what
+//! they must write.
 
 mod bundles;
 mod case;
@@ -13,6 +14,7 @@ mod metadata;
 mod out;
 mod patched;
 mod samples;
+mod scripts;
 mod streams;
 mod trees;
 mod writers;
@@ -25,8 +27,9 @@ pub struct VectorFile {
     pub bytes: Vec<u8>,
 }
 
-/// The inputs and the outputs of the programs `vectors`, topic by topic, and `listing`.
-pub fn files() -> [VectorFile; 4] {
+/// The inputs and the outputs of the programs `vectors`, topic by topic, `listing` and
+/// `panel_scripts`.
+pub fn files() -> [VectorFile; 6] {
     let topics = [
         crc::cases(),
         contents::cases(),
@@ -41,12 +44,15 @@ pub fn files() -> [VectorFile; 4] {
     let cases = topics.concat();
     let sample = streams::listing_input();
     let table = listing::table(&sample).into_bytes();
+    let scripts = scripts::scripts();
     let file = |path, bytes| VectorFile { path, bytes };
     [
         file("crates/vectors/stdin", case::input(&cases)),
         file("crates/vectors/stdout", case::output(&cases)),
         file("crates/listing/stdin", sample),
         file("crates/listing/stdout", table),
+        file("crates/panel_scripts/stdin", scripts::input(&scripts)),
+        file("crates/panel_scripts/stdout", scripts::output(&scripts)),
     ]
 }
 
@@ -54,12 +60,16 @@ pub fn files() -> [VectorFile; 4] {
 mod tests {
     use super::files;
 
-    /// As many bytes as the program reads.
-    const LONGEST: usize = 1_376_256;
+    /// As many bytes as the programs `vectors` and `panel_scripts` read.
+    const LONGEST: [usize; 2] = [1_376_256, 1_048_576];
 
     #[test]
-    fn the_input_is_read_whole() {
-        let [input, ..] = files();
-        assert!(input.bytes.len() <= LONGEST);
+    fn the_inputs_are_read_whole() {
+        let [vectors, _, _, _, scripts, _] = files();
+        let lengths = [vectors, scripts].map(|file| file.bytes.len());
+        assert!(lengths
+            .iter()
+            .zip(&LONGEST)
+            .all(|(length, longest)| length <= longest));
     }
 }

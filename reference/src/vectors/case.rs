@@ -35,9 +35,7 @@ impl Case {
     /// One more word of the line: two digits for each byte, or a dash where there is none.
     pub fn bytes(self, bytes: &[u8]) -> Self {
         let start = self.text(if bytes.is_empty() { " -" } else { " " });
-        bytes
-            .iter()
-            .fold(start, |case, byte| case.text(format_args!("{byte:02x}")))
+        start.text(digits(bytes))
     }
 
     pub fn words(self, words: &[u32]) -> Self {
@@ -73,6 +71,11 @@ pub fn output(cases: &[Case]) -> Vec<u8> {
 pub fn field(bytes: &[u8]) -> Vec<u8> {
     let length = u16::try_from(bytes.len()).expect("a length fits two bytes");
     [&length.to_be_bytes(), bytes].concat()
+}
+
+/// Two digits for each byte.
+pub fn digits(bytes: &[u8]) -> String {
+    bytes.iter().map(|byte| format!("{byte:02x}")).collect()
 }
 
 #[cfg(test)]

@@ -73,7 +73,7 @@ fn short_streams() -> Vec<Vec<u8>> {
 }
 
 /// A message for each number of the reader, from 2 on; those of 4 and above step.
-fn refused() -> Vec<Vec<u8>> {
+pub fn refused() -> Vec<Vec<u8>> {
     let mut streams = lies(
         &Sample::extended(),
         [
