@@ -39,6 +39,10 @@ IsGreen a = (age : ℕ) × (value : List ℕ) × (a ≡ green age value)
 abbrev pub IsGrey : Answer → Type 0
 IsGrey a = (age : ℕ) × (value : List ℕ) × (a ≡ grey age value)
 
+-- a value goes with green and grey alone
+abbrev pub IsColoured : Answer → Type 0
+IsColoured a = IsGreen a ⊎ IsGrey a
+
 module _ (R : Reader) where
   abbrev pub summaryBefore : List Call → ℕ → Summary
   summaryBefore cs k = summaryOf R (take k cs)

@@ -59,15 +59,20 @@ carries m e = isOf (typeText (m .content)) (m .deviceName) e
 
 -- ---- the checks
 
--- type the text TRANSFORM or POSITION, name 1 to 20 bytes of 1 to 127, hold time 1 to 60,000 ms
+-- type the text TRANSFORM or POSITION
+abbrev pub isPose : List ℕ → Bool
+isPose t = same t transformText || same t positionText
+
+-- name 1 to 20 bytes of 1 to 127
+abbrev pub isTileName : List ℕ → Bool
+isTileName n = leb 1 (length n) && (leb (length n) 20 && isText n)
+
+-- hold time 1 to 60,000 ms
+abbrev pub isHoldTime : ℕ → Bool
+isHoldTime h = leb 1 h && leb h 60000
+
 unfoldable pub isAllowed : List ℕ → List ℕ → ℕ → Bool
-isAllowed t n h =
-    (same t transformText || same t positionText)
-    && (leb 1 (length n)
-    && (leb (length n) 20
-    && (isText n
-    && (leb 1 h
-    && leb h 60000))))
+isAllowed t n h = isPose t && (isTileName n && isHoldTime h)
 
 -- check 16
 unfoldable pub allowedFault : List ℕ → List ℕ → ℕ → ℕ

@@ -15,7 +15,7 @@ use Rattle.message.specs.Message.{Message, encode}
 use Rattle.message.specs.Check.{readOf}
 use Rattle.message.specs.Demand2.{Begins}
 use Rattle.message.proofs.Laws.Messages.{demand-2}
-use Rattle.history.specs.Calls.{add, linkUp, message, look, Answer, refused, green, grey}
+use Rattle.history.specs.Calls.{add, linkUp, linkDown, message, look, Answer, refused, green, grey}
 use Rattle.history.specs.Summary.{isAllowed, allowedFault, clockFault}
 use Rattle.history.specs.History.{valueFor}
 use Rattle.panel.specs.declared.Label.{Label}
@@ -23,8 +23,9 @@ use Rattle.panel.specs.declared.Value.{Value}
 use Rattle.panel.specs.declared.Panel.{Panel}
 use Rattle.panel.specs.Tiles.{valueOf, labelOf, heardBy, isTile}
 use Rattle.panel.specs.Calls.{labelIn, addFault, addOf, linkOf, heardFault, messageFault, lookFault, lookOf}
+use Rattle.panel.specs.Answers.{valueBytes}
 use Rattle.panel.specs.Demand3.{answerTo, panelNext, panelAfter}
-use Rattle.panel.specs.Examples.{armText, FromArm, armCalls, looked, Examples}
+use Rattle.panel.specs.Examples.{armText, FromArm, armCalls, Examples}
 use Rattle.panel.proofs.Laws.Calls.{heard-whole}
 use Rattle.history.proofs.Laws.Readings.{begins-one, one-step}
 use Rattle.panel.proofs.Laws.Contents.{pose-short, value-bytes}
@@ -70,18 +71,21 @@ module _ (m : Message) (f : FromArm m) where
   short : length (valueFor m) ≤ 48
   short = pose-short (m .content) deepest (f .well .content) (inl (f .is-transform))
 
-  shown : (a : List ℕ → Answer) (now : ℕ) → answerTo (heardPanel (valueOf (valueFor m))) (look 0 now) ≡ a (valueFor m)
-      → looked (armCalls m) now ≡ a (valueFor m)
-  shown a now e = ap (λ (p : Panel). answerTo p (look 0 now)) heard-panel ∙ e
+  -- what a look shows after those calls and the next ones
+  shown : (next : Panel → Panel) (a : List ℕ → Answer) (now : ℕ)
+      → answerTo (next (heardPanel (valueOf (valueFor m)))) (look 0 now) ≡ a (valueBytes (valueOf (valueFor m)))
+      → answerTo (next (panelAfter (armCalls m))) (look 0 now) ≡ a (valueFor m)
+  shown next a now e =
+      ap (λ (p : Panel). answerTo (next p) (look 0 now)) heard-panel ∙ e ∙ ap a (value-bytes (valueFor m) short)
 
 pub examples : Examples
 unfolding panelAfter addOf addFault linkOf allowedFault isAllowed clockFault lookOf lookFault same sized any isText all
 examples =
     record {
-      p10 = λ m f. shown m f (green 500) 1700 (ap (green 500) (value-bytes (valueFor m) (short m f)));
-      p11 = λ m f. shown m f (grey 501) 1701 (ap (grey 501) (value-bytes (valueFor m) (short m f)));
-      p11-before = λ m f. shown m f (λ v. refused 15) 1199 refl;
-      p12 = λ m f.
-          ap (λ (p : Panel). answerTo (panelNext p (linkUp 1400)) (look 0 1400)) (heard-panel m f)
-          ∙ ap (grey 200) (value-bytes (valueFor m) (short m f));
+      p10 = λ m f. shown m f (λ p. p) (green 500) 1700 refl;
+      p11 = λ m f. shown m f (λ p. p) (grey 501) 1701 refl;
+      p11-before = λ m f. shown m f (λ p. p) (λ v. refused 15) 1199 refl;
+      p12 = λ m f. shown m f (λ p. panelNext p (linkUp 1400)) (grey 200) 1400 refl;
+      loose-cable = λ m f. shown m f (λ p. panelNext p (linkDown 1400)) (grey 200) 1400 refl;
+      reconnect = λ m f. shown m f (λ p. panelNext (panelNext p (linkDown 1300)) (linkUp 1400)) (grey 200) 1400 refl;
     }

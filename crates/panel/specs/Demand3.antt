@@ -7,7 +7,7 @@ use lib.ListN.{length, take}
 use Rattle.fields.specs.Lists.{Each}
 use Rattle.history.specs.Calls.{Call, add, linkUp, linkDown, message, look, OfBytes, Answer, numberOf}
 use Rattle.history.specs.Reading.{Reader}
-use Rattle.history.specs.History.{callAt, Answers}
+use Rattle.history.specs.History.{callAt, IsColoured, Answers}
 use Rattle.panel.specs.declared.Panel.{Panel}
 use Rattle.panel.specs.Answers.{addAnswer, callAnswer, Padded, lookAnswer}
 use Rattle.panel.specs.Calls.{freshPanel, addOf, linkOf, messageOf, lookOf}
@@ -46,3 +46,5 @@ pub record Demand3 : Type 0 where
   -- a refused call gives the panel back unchanged, and so does every look, for every panel
   pub refused : (p : Panel) (c : Call) → (numberOf (answerTo p c) ≡ 0 → ⊥) → panelNext p c ≡ p
   pub looked : (p : Panel) (i now : ℕ) → panelNext p (look i now) ≡ p
+  -- a look that is neither green nor grey has no value, for every panel
+  pub no-value : (p : Panel) (i now : ℕ) → (IsColoured (answerTo p (look i now)) → ⊥) → lookOf p i now .value .len ≡ 0

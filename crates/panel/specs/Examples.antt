@@ -1,11 +1,12 @@
--- Examples of document 01: its borders P10 to P12, for every TRANSFORM message from the device Arm.
+-- Examples of document 01: its borders P10 to P12, and a cable that comes loose and is put back, for every TRANSFORM message from the device
+-- Arm.
 use Prim.Native.Nat.{ℕ}
 use mathlib.Core.Path.{_≡_}
 use mathlib.Core.List.{List, [], _∷_, _++_}
 use Rattle.content.specs.Kinds.{transformText}
 use Rattle.content.specs.Tree.{typeText}
 use Rattle.message.specs.Message.{Message, WellFormed, encode}
-use Rattle.history.specs.Calls.{Call, add, linkUp, message, look, Answer, refused, green, grey}
+use Rattle.history.specs.Calls.{Call, add, linkUp, linkDown, message, look, Answer, refused, green, grey}
 use Rattle.history.specs.History.{valueFor}
 use Rattle.panel.specs.Demand3.{answerTo, panelAfter}
 
@@ -30,3 +31,6 @@ pub record Examples : Type 0 where
   pub p11 : (m : Message) → FromArm m → looked (armCalls m) 1701 ≡ grey 501 (valueFor m)
   pub p11-before : (m : Message) → FromArm m → looked (armCalls m) 1199 ≡ refused 15
   pub p12 : (m : Message) → FromArm m → looked (armCalls m ++ (linkUp 1400 ∷ [])) 1400 ≡ grey 200 (valueFor m)
+  -- the cable comes loose; the cable is put back
+  pub loose-cable : (m : Message) → FromArm m → looked (armCalls m ++ (linkDown 1400 ∷ [])) 1400 ≡ grey 200 (valueFor m)
+  pub reconnect : (m : Message) → FromArm m → looked (armCalls m ++ (linkDown 1300 ∷ linkUp 1400 ∷ [])) 1400 ≡ grey 200 (valueFor m)

@@ -2,13 +2,12 @@
 //
 // A tile's number is its place in the table. What a call does to the table it does to each tile by itself.
 ghost use mathlib.Core.Path.{_≡_};
-ghost use mathlib.Core.Bool.{true, false, _||_};
+ghost use mathlib.Core.Bool.{true, false};
 ghost use mathlib.Core.List.{map};
 ghost use Prim.Native.Nat.{_-_};
 ghost use Rattle.fields.specs.Bytes.{same};
 ghost use Rattle.fields.specs.Lists.{any};
-ghost use Rattle.content.specs.Kinds.{transformText, positionText};
-ghost use Rattle.history.specs.Summary.{isAllowed};
+ghost use Rattle.history.specs.Summary.{isPose, isTileName, isHoldTime, isAllowed};
 ghost use Rattle.panel.specs.Tiles.{valueOf, noValue, labelOf, freeTile, newTile, isTile, relinked, heardBy, shownBy, freeIn};
 ghost use Rattle.panel.specs.Calls.{freshPanel, refusedAdd, refusedCall, refusedLook, lookedAt, addOf, linkOf, messageOf, lookOf};
 
@@ -339,12 +338,33 @@ fn look_at(panel: Panel, tile: Tile, clock: u64) -> LookResult
 // ---- calls
 
 fn is_pose(type_text: &[u8]) -> bool
-    ensures { λ r. ⌜ r ≡ (same (now («type_text» .entry)) transformText || same (now («type_text» .entry)) positionText) ⌝ }
+    ensures { λ r. ⌜ r ≡ isPose (now («type_text» .entry)) ⌝ }
 {
     if fields::slice::same(type_text, b"TRANSFORM") {
         return true;
     }
     fields::slice::same(type_text, b"POSITION")
+}
+
+fn is_tile_name(name: &[u8]) -> bool
+    ensures { λ r. ⌜ r ≡ isTileName (now (name .entry)) ⌝ }
+{
+    if name.len() < 1 {
+        return false;
+    }
+    if 20 < name.len() {
+        return false;
+    }
+    fields::text::is_text(name)
+}
+
+fn is_hold_time(hold_time: u64) -> bool
+    ensures { λ r. ⌜ r ≡ isHoldTime «hold_time» ⌝ }
+{
+    if hold_time < 1 {
+        return false;
+    }
+    hold_time <= 60000
 }
 
 // May a tile of this type, name and hold time be added?
@@ -354,19 +374,10 @@ fn is_allowed(type_text: &[u8], name: &[u8], hold_time: u64) -> bool
     if !is_pose(type_text) {
         return false;
     }
-    if name.len() < 1 {
+    if !is_tile_name(name) {
         return false;
     }
-    if 20 < name.len() {
-        return false;
-    }
-    if !fields::text::is_text(name) {
-        return false;
-    }
-    if hold_time < 1 {
-        return false;
-    }
-    hold_time <= 60000
+    is_hold_time(hold_time)
 }
 
 impl Panel {

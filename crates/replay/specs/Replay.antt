@@ -8,7 +8,7 @@ use lib.Dec.{eqb}
 use lib.ListN.{length, take}
 use Rattle.history.specs.Calls.{Call, add, linkUp, linkDown, message, look, Answer, refused, accepted, added, empty, green, grey}
 use Rattle.history.specs.Reading.{Reader}
-use Rattle.history.specs.History.{callAt, Answers}
+use Rattle.history.specs.History.{callAt, IsColoured, Answers}
 use Rattle.panel.specs.declared.Panel.{Panel}
 use Rattle.panel.specs.declared.AddResult.{AddResult}
 use Rattle.panel.specs.declared.AddAnswer.{AddAnswer}
@@ -86,16 +86,18 @@ saying (Grey a) v = some (grey a v)
 saying (Refused n) v = some (refused n)
 saying NoCall v = none
 
--- r says what the book and the history say of the call c after the calls cs, with any reader of demand 2; past its value's bytes are zeros
+-- r says what the book and the history say of the call c after the calls cs, with any reader of demand 2; past its value's bytes are zeros,
+-- and a value goes with green and grey alone
 pub record Says (cs : List Call) (c : Call) (r : Answered) : Type 0 where
   pub answer : Answer
   pub says : saying (r .answer) (valueBytes (r .value)) ≡ some answer
   pub answers : (R : Reader) → Answers R cs c answer
   pub padded : Padded (r .value)
+  pub no-value : (IsColoured answer → ⊥) → r .value .len ≡ 0
 
 pub record AnswersAt (s : List ℕ) (k : ℕ) (r : Answered) : Type 0 where
   pub inside : k < length (callsIn s) → Says (take k (callsIn s)) (callAt (callsIn s) k) r
-  pub past : length (callsIn s) ≤ k → r .answer ≡ NoCall
+  pub past : length (callsIn s) ≤ k → (r .answer ≡ NoCall) × (r .value .len ≡ 0)
 
 abbrev pub ShowsAfter : List ℕ → ℕ → ℕ → Answered → Type 0
 ShowsAfter s i now r = Says (callsIn s) (look i now) r

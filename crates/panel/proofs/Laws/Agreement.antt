@@ -48,7 +48,7 @@ place-hold (vacant u h) t = true-false false t refl
 place-hold (taken u l h a) t = h
 
 pub place-is : {x : Tile} {o : Option Entry} (t n : List ℕ) → WellTexts t n → PlaceAgrees x o → isTile (labelOf t n) x ≡ passes (isOf t n) o
-place-is {x} t n w (vacant u h) = ap (λ (y : Bool). y && sameLabel (x .label) (labelOf t n)) u
+place-is t n w (vacant u h) = rw u
 place-is {x} t n w (taken {e} u l h a) =
     ap₂ (λ (y : Bool) (k : Label). y && sameLabel k (labelOf t n)) u l
     ∙ label-says t n e w (allowed-texts (e .typeText) (e .name) (allowed (e .typeText) (e .name) (e .holdTime) a))

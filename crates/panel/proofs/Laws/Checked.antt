@@ -54,7 +54,7 @@ module _ (p : Panel) (b : Summary) (T : Agrees p b) where
   -- the reader's number, 12, 13
   heard-same : (s : List ℕ) (r : Reading) → Bytes s → Reads s r → heardFault (p .tiles) s (readOf s) ≡ readingNumber (b .tiles) r
   heard-same s r bs (none n) = heard-unread (p .tiles) s (readOf s) (none-number s bs n) ∙ read-number s
-  heard-same s r bs (more m g h) = heard-left-over (p .tiles) s (readOf s) (demand-2 .begun s m g) (more-step s m g h)
+  heard-same s r bs (more m g h) = heard-left-over (p .tiles) s (readOf s) (demand-2 .begun s m g) (omega (arith, more-step s m g h))
   heard-same s r bs (one m w e) =
       let g : Begins s m = begins-one s m w e in
       heard-whole (p .tiles) s (readOf s) (demand-2 .begun s m g) (omega (arith, one-step s m w e))

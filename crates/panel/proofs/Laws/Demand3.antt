@@ -15,7 +15,8 @@ use Rattle.message.specs.Message.{Message}
 use Rattle.history.specs.Calls.{Call, add, linkUp, linkDown, message, look, OfBytes, Answer, refused, accepted, added, empty, green, grey}
 use Rattle.history.specs.Reading.{Reader}
 use Rattle.history.specs.Summary.{tileAt, isThere, numberOn, summaryOf}
-use Rattle.history.specs.History.{callAt, holdTimeOf, valueFor, Counted, Unlinked, Current, Silent, Last, Shown, Accepted, Answers}
+use Rattle.history.specs.History.{callAt, holdTimeOf, valueFor, IsColoured, Counted, Unlinked, Current, Silent, Last, Shown, Accepted, Answers}
+use Rattle.panel.specs.declared.Value.{Value}
 use Rattle.panel.specs.declared.Tile.{Tile}
 use Rattle.panel.specs.declared.Panel.{Panel}
 use Rattle.panel.specs.declared.LookResult.{LookResult}
@@ -24,8 +25,9 @@ use Rattle.panel.specs.Tiles.{noValue, freeTile, noTile}
 use Rattle.panel.specs.Calls.{freshPanel, lookFault, lookedAt, refusedLook, lookOf}
 use Rattle.panel.specs.Answers.{valueBytes, Padded, lookAnswer}
 use Rattle.panel.specs.Demand3.{answerTo, panelNext, panelAfter, Demand3}
-use Rattle.fields.proofs.Laws.Tests.{by-test, cond-cases}
+use Rattle.fields.proofs.Laws.Tests.{by-zero, by-test, cond-cases}
 use Rattle.panel.proofs.Laws.Contents.{value-bytes, value-padded}
+use Rattle.panel.proofs.Laws.Calls.{look-refused, look-accepted}
 use Rattle.panel.proofs.Laws.Faults.{faultOn, acceptedBy, answer-refused, answer-accepted, refused-kept, panel-looked}
 use Rattle.panel.proofs.Laws.Agreement.{fresh-agrees, place-hold}
 use Rattle.panel.proofs.Laws.History.{Kept, silent, heard}
@@ -205,6 +207,26 @@ module _ (R : Reader) (cs : List Call) (p : Panel) (G : Invariant R cs p) where
       cond-cases (λ (r : LookResult). Padded (r .value)) (eqb (lookFault p i now) 0) (lookedAt p (getD (p .tiles) i noTile) now)
       (refusedLook p (lookFault p i now)) (λ q. tile-padded _ i now (G .kept i)) (λ q. value-padded [] (omega arith))
 
+-- ---- no colour, no value
+
+module _ (p : Panel) (i now : ℕ) where
+  abbrev Blank : LookResult → Type 0
+  Blank r = (IsColoured (lookAnswer (r .answer) (r .value)) → ⊥) → r .value .len ≡ 0
+
+  tile-blank : (x : Tile) → Blank (lookedAt p x now)
+  tile-blank x = blank (x .heard) (x .«since_link» && leb (now - x .clock) (x .«hold_time»)) (now - x .clock) (x .value)
+    where
+      blank : (h c : Bool) (a : ℕ) (v : Value) → Blank (record { panel = p; answer = cond h (cond c (Green a) (Grey a)) Empty; value = cond h v noValue })
+      blank false c a v g = refl
+      blank true true a v g = absurd (g (inl (a, valueBytes v, refl)))
+      blank true false a v g = absurd (g (inr (a, valueBytes v, refl)))
+
+  look-blank : Blank (lookOf p i now)
+  look-blank =
+      by-zero (lookFault p i now)
+      (λ e. subst Blank (look-accepted p i now e) (tile-blank (getD (p .tiles) i noTile)))
+      (λ z. subst Blank (look-refused p i now _ refl z) (λ g. refl))
+
 -- ---- demand 3
 
 each-at : (k : ℕ) (cs : List Call) → Each OfBytes cs → OfBytes (callAt cs k)
@@ -223,4 +245,5 @@ demand-3 =
           };
       refused = refused-kept;
       looked = panel-looked;
+      no-value = look-blank;
     }

@@ -1,21 +1,17 @@
 -- What a call gives by the number of its first fault, for every panel.
-use Prim.Native.Nat.{ℕ, _-_}
+use Prim.Native.Nat.{ℕ}
 use mathlib.Core.Path.{_≡_, refl, sym, ap, _∙_}
-use mathlib.Core.Bool.{Bool, true, false, cond, _&&_}
-use lib.Dec.{leb}
+use mathlib.Core.Bool.{Bool, true, false, cond}
 use lib.ListN.{getD}
 use borrow.Author.Tests.{ne-eqb}
 use Rattle.message.specs.Check.{readOf}
 use Rattle.history.specs.Calls.{Call, add, linkUp, linkDown, message, look, Answer, refused, accepted, added, numberOf}
 use Rattle.history.specs.Summary.{clockFault}
-use Rattle.panel.specs.declared.Value.{Value}
-use Rattle.panel.specs.declared.Tile.{Tile}
 use Rattle.panel.specs.declared.Panel.{Panel}
 use Rattle.panel.specs.declared.AddResult.{AddResult}
 use Rattle.panel.specs.declared.CallResult.{CallResult}
 use Rattle.panel.specs.declared.LookResult.{LookResult}
-use Rattle.panel.specs.declared.LookAnswer.the-variants.{Empty, Green, Grey}
-use Rattle.panel.specs.Tiles.{noValue, labelOf, noTile, newTile, freeIn}
+use Rattle.panel.specs.Tiles.{labelOf, noTile, newTile, freeIn}
 use Rattle.panel.specs.Calls.{addFault, entered, linked, messageFault, received, lookFault, lookedAt}
 use Rattle.panel.specs.Answers.{addAnswer, callAnswer, lookAnswer}
 use Rattle.panel.specs.Demand3.{answerTo, panelNext}
@@ -83,22 +79,11 @@ answer-accepted p (linkDown t) e = ap (λ (r : CallResult). callAnswer (r .numbe
 answer-accepted p (message t s) e = ap (λ (r : CallResult). callAnswer (r .number)) (sym (message-accepted p t s e))
 answer-accepted p (look i now) e = ap (λ (r : LookResult). lookAnswer (r .answer) (r .value)) (sym (look-accepted p i now e))
 
--- ---- a call is refused exactly when its number is not 0
-
-shown-number : (p : Panel) (x : Tile) (now : ℕ) → numberOf (lookAnswer (lookedAt p x now .answer) (lookedAt p x now .value)) ≡ 0
-shown-number p x now = shown (x .heard) (x .«since_link» && leb (now - x .clock) (x .«hold_time»)) (now - x .clock) (x .value) noValue
-  where
-    shown : (h c : Bool) (a : ℕ) (v w : Value) → numberOf (lookAnswer (cond h (cond c (Green a) (Grey a)) Empty) (cond h v w)) ≡ 0
-    shown true true a v w = refl
-    shown true false a v w = refl
-    shown false c a v w = refl
-
-accepted-number : (p : Panel) (c : Call) → numberOf (acceptedBy p c) ≡ 0
-accepted-number p (add t n h) = refl
-accepted-number p (linkUp t) = refl
-accepted-number p (linkDown t) = refl
-accepted-number p (message t s) = refl
-accepted-number p (look i now) = shown-number p (getD (p .tiles) i noTile) now
+-- ---- a call whose number is not 0 is refused; a look changes no panel
 
 pub refused-kept : (p : Panel) (c : Call) → (numberOf (answerTo p c) ≡ 0 → ⊥) → panelNext p c ≡ p
-refused-kept p c z = panel-refused p c (λ e. z (ap numberOf (answer-accepted p c e) ∙ accepted-number p c))
+refused-kept p (add t n h) z = panel-refused p (add t n h) (λ e. z (ap numberOf (answer-accepted p (add t n h) e)))
+refused-kept p (linkUp t) z = panel-refused p (linkUp t) (λ e. z (ap numberOf (answer-accepted p (linkUp t) e)))
+refused-kept p (linkDown t) z = panel-refused p (linkDown t) (λ e. z (ap numberOf (answer-accepted p (linkDown t) e)))
+refused-kept p (message t s) z = panel-refused p (message t s) (λ e. z (ap numberOf (answer-accepted p (message t s) e)))
+refused-kept p (look i now) z = panel-looked p i now

@@ -2,7 +2,7 @@
 use Prim.Native.Nat.{ℕ, _≤_}
 use mathlib.Core.Path.{_≡_, refl, sym, ap, ap₂, subst, _∙_}
 use mathlib.Core.Logic.{_⊎_, inl, inr, ⊎-elim}
-use mathlib.Core.Bool.{Bool, true, _&&_, _||_}
+use mathlib.Core.Bool.{Bool, true, _&&_}
 use mathlib.Core.List.{List}
 use native.Mathlib.Omega.{arith}
 use lib.Dec.{leb}
@@ -16,7 +16,7 @@ use Rattle.fields.proofs.Laws.Checks.{and-split, or-split}
 use Rattle.fields.proofs.Laws.Text.{is-text, text-unique, textBytes-sized}
 use Rattle.content.specs.Kinds.{transformText, positionText}
 use Rattle.header.specs.Header.{WellTexts}
-use Rattle.history.specs.Summary.{Entry, isOf, isAllowed}
+use Rattle.history.specs.Summary.{Entry, isOf, isPose, isTileName, isAllowed}
 use Rattle.panel.specs.declared.Label.{Label}
 use Rattle.panel.specs.Tiles.{labelOf}
 use Rattle.fields.proofs.Laws.Tests.{by-test}
@@ -31,13 +31,12 @@ pub record Allowed (t n : List ℕ) : Type 0 where
 pub allowed : (t n : List ℕ) (h : ℕ) → isAllowed t n h ≡ true → Allowed t n
 unfolding isAllowed
 allowed t n h e =
-    let a = and-split (same t transformText || same t positionText) _ e in
-    let b = and-split (leb 1 (length n)) _ (a .1) in
-    let c = and-split (leb (length n) 20) _ (b .1) in
-    let d = and-split (isText n) _ (c .1) in
+    let a = and-split (isPose t) _ e in
+    let b = and-split (isTileName n) _ (a .1) .0 in
+    let c = and-split (leb (length n) 20) _ (and-split (leb 1 (length n)) _ b .1) in
     record {
-      pose = ⊎-elim (λ q. inl (same-eq t transformText q)) (λ q. inr (same-eq t positionText q)) (or-split (same t transformText) (same t positionText) (a .0));
-      name-text = is-text n (d .0);
+      pose = ⊎-elim (λ q. inl (same-eq t transformText q)) (λ q. inr (same-eq t positionText q)) (or-split (same t transformText) _ (a .0));
+      name-text = is-text n (c .1);
       name-fits = leb-true (length n) 20 (c .0);
     }
 

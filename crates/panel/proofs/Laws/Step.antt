@@ -1,8 +1,8 @@
--- One call more: the panel stays agrees to the book, and each tile to its history.
+-- One call more: the panel still agrees with the book, and each tile keeps its history.
 use Prim.Native.Nat.{ℕ, _≤_, _<_}
 use mathlib.Core.Path.{_≡_, refl, ap, sym, subst, _∙_}
 use mathlib.Core.Logic.{_⊎_, inl, inr, ⊎-elim}
-use mathlib.Core.Bool.{Bool, true, false, cond, _&&_, false≢true}
+use mathlib.Core.Bool.{Bool, true, false, cond, false≢true}
 use mathlib.Core.List.{List, [], _∷_, _++_, map}
 use mathlib.Core.Option.{Option, none, some}
 use native.Mathlib.Omega.{arith}
@@ -34,7 +34,7 @@ use Rattle.panel.specs.Calls.{labelIn, valueIn, entered, linked, receive
 use Rattle.panel.specs.Demand3.{panelNext}
 use Rattle.fields.proofs.Laws.Tests.{by-test, by-zero, true-false, cond-cases}
 use Rattle.history.proofs.Laws.Readings.{begins-one, none-number}
-use Rattle.panel.proofs.Laws.Labels.{allowed, sameLabel}
+use Rattle.panel.proofs.Laws.Labels.{allowed}
 use Rattle.panel.proofs.Laws.Contents.{pose-short}
 use Rattle.panel.proofs.Laws.Faults.{faultOn, changedBy, panel-refused, panel-changed}
 use Rattle.panel.proofs.Laws.Agreement.{PlaceAgrees, vacant, taken, Agrees, place-heard, place-is, free-unused, tile-more}
@@ -191,7 +191,7 @@ module _ (R : Reader) (cs : List Call) (p : Panel) (G : Invariant R cs p) where
     hear-place : {x : Tile} {q : Option Entry} → PlaceAgrees x q → PlaceAgrees (hearing x) q
     hear-place {x} (vacant u g) =
         cond-cases (λ (y : Tile). PlaceAgrees y none) (isTile (labelIn s (readOf s)) x) _ x
-        (λ v. absurd (false≢true (sym (ap (λ (y : Bool). y && sameLabel (x .label) (labelIn s (readOf s))) u) ∙ v)))
+        (λ v. true-false (x .used) (and-split (x .used) _ v .0) u)
         (λ v. vacant u g)
     hear-place {x} (taken {e} u k g a) =
         cond-cases (λ (y : Tile). PlaceAgrees y (some e)) (isTile (labelIn s (readOf s)) x) _ x (λ v. taken refl k g a) (λ v. taken u k g a)

@@ -14,7 +14,7 @@ use Rattle.fields.proofs.Laws.Lists.{each-take}
 use Rattle.fields.proofs.Laws.Walks.{walk-step}
 use Rattle.history.specs.Calls.{Call, add, linkUp, linkDown, message, look, OfBytes, refused, accepted}
 use Rattle.history.specs.Reading.{Reader}
-use Rattle.history.specs.History.{callAt, Answers}
+use Rattle.history.specs.History.{callAt, IsColoured, Answers}
 use Rattle.history.proofs.Laws.Readings.{readers}
 use Rattle.panel.specs.declared.Panel.{Panel}
 use Rattle.panel.specs.declared.AddResult.{AddResult}
@@ -125,6 +125,14 @@ module _ (cs : List Call) (bytes : Each OfBytes cs) where
   performed-padded (message t s) = value-padded [] (omega arith)
   performed-padded (look i now) = demand-3 .claim (readers .some) cs bytes .padded i now
 
+  performed-blank : (c : Call) → (IsColoured (answerTo (panelAfter cs) c) → ⊥) → performed (panelAfter cs) c .answered .value .len ≡ 0
+  unfolding performed
+  performed-blank (add t n h) z = refl
+  performed-blank (linkUp t) z = refl
+  performed-blank (linkDown t) z = refl
+  performed-blank (message t s) z = refl
+  performed-blank (look i now) z = demand-3 .no-value (panelAfter cs) i now z
+
   performed-answers : (c : Call) → ((R : Reader) → Answers R cs c (answerTo (panelAfter cs) c)) → Says cs c (performed (panelAfter cs) c .answered)
   performed-answers c d =
       record {
@@ -132,6 +140,7 @@ module _ (cs : List Call) (bytes : Each OfBytes cs) where
         says = performed-says (panelAfter cs) c;
         answers = d;
         padded = performed-padded c;
+        no-value = performed-blank c;
       }
 
 -- ---- the call at a place
@@ -161,7 +170,9 @@ answers-at s k b e =
             inside = λ l.
                 subst (Says (take k cs) (callAt cs k)) (sym (among-inside k freshPanel cs l))
                 (performed-answers (take k cs) (each-take OfBytes k cs o) (callAt cs k) (λ R. demand-3 .claim R cs o .inside k l));
-            past = λ l. ap (λ (a : Answered). a .answer) (among-past k freshPanel cs l);
+            past = λ l.
+                let e = among-past k freshPanel cs l in
+                (ap (λ (a : Answered). a .answer) e, ap (λ (a : Answered). a .value .len) e);
           }),
     )
 

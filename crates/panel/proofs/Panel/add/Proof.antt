@@ -49,11 +49,11 @@ returns-3 c =
     let d = c .before .before .before .before .before .before in
     let a = d .before .before .before .before .before .args in
     let k = d .before .before .is-allowed in
+    let new = sym (c .before .before .before .before .has .ensures) ∙ c .before .before .before .if2 .left in
     c .refused-add3 .ensures
     ∙ add-full (a .self) (a .type-text .now) (a .name .now) (a .hold-time)
     (sym (k .ensures) ∙ not-false (k .result) (d .before .if1 .left)) _ (d .label-of .ensures)
-    (sym (c .before .before .before .before .has .ensures) ∙ c .before .before .before .if2 .left) _ (c .before .before .free-place .ensures)
-    (c .before .if3 .taken)
+    new _ (c .before .before .free-place .ensures) (c .before .if3 .taken)
 
 new-tile-requires : tie.Need-new-tile-requires
 new-tile-requires c κs = search needs
