@@ -10,7 +10,7 @@ pub data Call : Type 0 where
   message : (clock : ℕ) (bytes : List ℕ) → Call
   look : (tile clock : ℕ) → Call
 
--- what every call keeps: the bytes of a message call are bytes
+-- what holds of every call that can be made: the bytes of a message are bytes
 abbrev pub OfBytes : Call → Type 0
 OfBytes (add t n h) = Unit {0}
 OfBytes (linkUp t) = Unit {0}

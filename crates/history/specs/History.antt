@@ -33,6 +33,7 @@ IsLink (linkDown t) = Unit {0}
 IsLink (message t s) = ⊥
 IsLink (look i t) = ⊥
 
+-- the answer is green, or grey, with some age and value
 abbrev pub IsGreen : Answer → Type 0
 IsGreen a = (age : ℕ) × (value : List ℕ) × (a ≡ green age value)
 

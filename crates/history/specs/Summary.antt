@@ -14,8 +14,9 @@ use Rattle.content.specs.Kinds.{transformText, positionText}
 use Rattle.content.specs.Tree.{typeText}
 use Rattle.message.specs.Message.{Message}
 use Rattle.history.specs.Calls.{Call, add, linkUp, linkDown, message, look}
-use Rattle.history.specs.Reading.{Reading, no-message, left-over, one-message, Reader}
+use Rattle.history.specs.Reading.{Reading, noMessage, leftOver, oneMessage, Reader}
 
+-- a tile as the book has it
 pub record Entry : Type 0 where
   pub typeText : List ℕ
   pub name : List ℕ
@@ -88,9 +89,9 @@ isFull es = leb 16 (length es)
 
 -- the reader's number, 12, 13
 abbrev pub readingNumber : List Entry → Reading → ℕ
-readingNumber es (no-message n) = n
-readingNumber es left-over = 12
-readingNumber es (one-message m) = cond (any (carries m) es) 0 13
+readingNumber es (noMessage n) = n
+readingNumber es leftOver = 12
+readingNumber es (oneMessage m) = cond (any (carries m) es) 0 13
 
 module _ (R : Reader) where
   -- the number that a call gets by its checks, made on the book; 0 where it is accepted, or counts
