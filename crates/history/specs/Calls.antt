@@ -1,6 +1,8 @@
 -- The calls on a panel, with whatever bytes, clocks and numbers they carry, and what they answer in document 01's words.
-use Prim.Native.Nat.{ℕ}
-use mathlib.Core.List.{List}
+use Prim.Native.Nat.{ℕ, _-_, _≤_}
+use mathlib.Core.Path.{_≡_}
+use mathlib.Core.List.{List, _++_}
+use lib.ListN.{length, take, replicate}
 use Rattle.fields.specs.Bytes.{Bytes}
 
 pub data Call : Type 0 where
@@ -27,6 +29,16 @@ pub data Answer : Type 0 where
   empty : Answer
   green : (age : ℕ) (value : List ℕ) → Answer
   grey : (age : ℕ) (value : List ℕ) → Answer
+
+-- a value as it is handed out, 48 bytes and a length: its own bytes
+abbrev pub valueBytes : List ℕ → ℕ → List ℕ
+valueBytes bytes len = take len bytes
+
+-- the length is theirs, at most 48, and past them are zeros
+pub record Padded (bytes : List ℕ) (len : ℕ) : Type 0 where
+  pub count : length (valueBytes bytes len) ≡ len
+  pub fits : len ≤ 48
+  pub zeros : bytes ≡ valueBytes bytes len ++ replicate (48 - len) 0
 
 -- document 01's number of each answer
 abbrev pub numberOf : Answer → ℕ

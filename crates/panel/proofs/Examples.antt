@@ -23,12 +23,11 @@ use Rattle.panel.specs.declared.Value.{Value}
 use Rattle.panel.specs.declared.Panel.{Panel}
 use Rattle.panel.specs.Tiles.{valueOf, labelOf, heardBy, isTile}
 use Rattle.panel.specs.Calls.{labelIn, addFault, addOf, linkOf, heardFault, messageFault, lookFault, lookOf}
-use Rattle.panel.specs.Answers.{valueBytes}
 use Rattle.panel.specs.Demand3.{answerTo, panelNext, panelAfter}
 use Rattle.panel.specs.Examples.{armText, FromArm, armCalls, Examples}
 use Rattle.panel.proofs.Laws.Calls.{heard-whole}
 use Rattle.history.proofs.Laws.Readings.{begins-one, one-step}
-use Rattle.panel.proofs.Laws.Contents.{pose-short, value-bytes}
+use Rattle.panel.proofs.Laws.Contents.{bytesOf, pose-short, value-bytes}
 use Rattle.panel.proofs.Laws.Faults.{panel-changed}
 use Rattle.panel.proofs.Laws.Checked.{begun-label, begun-value}
 
@@ -73,7 +72,7 @@ module _ (m : Message) (f : FromArm m) where
 
   -- what a look shows after those calls and the next ones
   shown : (next : Panel → Panel) (a : List ℕ → Answer) (now : ℕ)
-      → answerTo (next (heardPanel (valueOf (valueFor m)))) (look 0 now) ≡ a (valueBytes (valueOf (valueFor m)))
+      → answerTo (next (heardPanel (valueOf (valueFor m)))) (look 0 now) ≡ a (bytesOf (valueOf (valueFor m)))
       → answerTo (next (panelAfter (armCalls m))) (look 0 now) ≡ a (valueFor m)
   shown next a now e =
       ap (λ (p : Panel). answerTo (next p) (look 0 now)) heard-panel ∙ e ∙ ap a (value-bytes (valueFor m) short)

@@ -5,11 +5,11 @@ use mathlib.Core.Bool.{true, false}
 use mathlib.Core.List.{List, foldl}
 use lib.ListN.{length, take}
 use Rattle.fields.specs.Lists.{Each}
-use Rattle.history.specs.Calls.{Call, add, linkUp, linkDown, message, look, OfBytes, Answer, numberOf}
+use Rattle.history.specs.Calls.{Call, add, linkUp, linkDown, message, look, OfBytes, Answer, Padded, numberOf}
 use Rattle.history.specs.Reading.{Reader}
 use Rattle.history.specs.History.{callAt, IsColoured, Answers}
 use Rattle.panel.specs.declared.Panel.{Panel}
-use Rattle.panel.specs.Answers.{addAnswer, callAnswer, Padded, lookAnswer}
+use Rattle.panel.specs.Answers.{addAnswer, callAnswer, lookAnswer}
 use Rattle.panel.specs.Calls.{freshPanel, addOf, linkOf, messageOf, lookOf}
 
 -- what a call on a panel answers
@@ -38,7 +38,7 @@ pub record Claim (R : Reader) (cs : List Call) : Type 0 where
   -- so does a look after it
   pub after : (i now : ℕ) → Answers R cs (look i now) (answerTo (panelAfter cs) (look i now))
   -- its value's length is that of the content, and the bytes past it are 0
-  pub padded : (i now : ℕ) → Padded (lookOf (panelAfter cs) i now .value)
+  pub padded : (i now : ℕ) → Padded (lookOf (panelAfter cs) i now .value .bytes) (lookOf (panelAfter cs) i now .value .len)
 
 pub record Demand3 : Type 0 where
   -- with any reader of demand 2; that there is one, and only one, is `Readers` of crate history

@@ -6,7 +6,7 @@ use mathlib.Core.List.{List, [], _∷_}
 use mathlib.Core.Option.{Option, none, some}
 use lib.Dec.{eqb}
 use lib.ListN.{length, take}
-use Rattle.history.specs.Calls.{Call, add, linkUp, linkDown, message, look, Answer, refused, accepted, added, empty, green, grey}
+use Rattle.history.specs.Calls.{Call, add, linkUp, linkDown, message, look, Answer, refused, accepted, added, empty, green, grey, valueBytes, Padded}
 use Rattle.history.specs.Reading.{Reader}
 use Rattle.history.specs.History.{callAt, IsColoured, Answers}
 use Rattle.panel.specs.declared.Panel.{Panel}
@@ -19,7 +19,6 @@ use Rattle.panel.specs.declared.LookAnswer.{LookAnswer}
 use Rattle.panel.specs.declared.LookAnswer.the-variants as look-answer
 use Rattle.panel.specs.Tiles.{noValue}
 use Rattle.panel.specs.Calls.{freshPanel, addOf, linkOf, messageOf, lookOf}
-use Rattle.panel.specs.Answers.{valueBytes, Padded}
 use Rattle.panel.specs.Demand3.{panelNext, panelAfter}
 use Rattle.replay.specs.declared.CallAnswer.{CallAnswer}
 use Rattle.replay.specs.declared.CallAnswer.the-variants.{Accepted, Added, Empty, Green, Grey, Refused, NoCall}
@@ -90,9 +89,9 @@ saying NoCall v = none
 -- and a value goes with green and grey alone
 pub record Says (cs : List Call) (c : Call) (r : Answered) : Type 0 where
   pub answer : Answer
-  pub says : saying (r .answer) (valueBytes (r .value)) ≡ some answer
+  pub says : saying (r .answer) (valueBytes (r .value .bytes) (r .value .len)) ≡ some answer
   pub answers : (R : Reader) → Answers R cs c answer
-  pub padded : Padded (r .value)
+  pub padded : Padded (r .value .bytes) (r .value .len)
   pub no-value : (IsColoured answer → ⊥) → r .value .len ≡ 0
 
 pub record AnswersAt (s : List ℕ) (k : ℕ) (r : Answered) : Type 0 where

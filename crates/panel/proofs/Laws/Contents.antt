@@ -14,8 +14,9 @@ use Rattle.pose.proofs.Laws.{length-wordBytes}
 use Rattle.content.specs.Kinds.{transformText, positionText, imageText, bindText}
 use Rattle.content.specs.Tree.{Content, transform, position, image, bind, other, typeText}
 use Rattle.content.specs.Tree as tree
+use Rattle.history.specs.Calls.{valueBytes, Padded}
+use Rattle.panel.specs.declared.Value.{Value}
 use Rattle.panel.specs.Tiles.{valueOf}
-use Rattle.panel.specs.Answers.{valueBytes, Padded}
 
 position-short : (ws : List ℕ) (n : ℕ) → length ws ≡ n → PositionCount n → 4 * length ws ≤ 48
 position-short ws _ e three = omega arith
@@ -37,13 +38,21 @@ pose-short (image x) levels w p = absurd (no-pose imageText refl refl p)
 pose-short (bind cs) levels w p = absurd (no-pose bindText refl refl p)
 pose-short (other t s) levels w p = absurd (⊎-elim (w .0 .no-transform) (w .0 .no-position) p)
 
+-- ---- a value
+
+abbrev pub bytesOf : Value → List ℕ
+bytesOf v = valueBytes (v .bytes) (v .len)
+
+abbrev pub PaddedValue : Value → Type 0
+PaddedValue v = Padded (v .bytes) (v .len)
+
 -- the bytes of a value that is short enough are the content
-pub value-bytes : (c : List ℕ) → length c ≤ 48 → valueBytes (valueOf c) ≡ c
+pub value-bytes : (c : List ℕ) → length c ≤ 48 → bytesOf (valueOf c) ≡ c
 value-bytes c h = ap (take (length c)) (sized-fits 48 c h) ∙ take-at c (replicate (48 - length c) 0) (length c) refl
 
-pub value-padded : (c : List ℕ) → length c ≤ 48 → Padded (valueOf c)
+pub value-padded : (c : List ℕ) → length c ≤ 48 → PaddedValue (valueOf c)
 value-padded c h =
-    let e : valueBytes (valueOf c) ≡ c = value-bytes c h in
+    let e : bytesOf (valueOf c) ≡ c = value-bytes c h in
     record {
       count = ap length e;
       fits = h;

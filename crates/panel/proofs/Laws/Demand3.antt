@@ -23,10 +23,10 @@ use Rattle.panel.specs.declared.LookResult.{LookResult}
 use Rattle.panel.specs.declared.LookAnswer.the-variants.{Empty, Green, Grey}
 use Rattle.panel.specs.Tiles.{noValue, freeTile, noTile}
 use Rattle.panel.specs.Calls.{freshPanel, lookFault, lookedAt, refusedLook, lookOf}
-use Rattle.panel.specs.Answers.{valueBytes, Padded, lookAnswer}
+use Rattle.panel.specs.Answers.{lookAnswer}
 use Rattle.panel.specs.Demand3.{answerTo, panelNext, panelAfter, Demand3}
 use Rattle.fields.proofs.Laws.Tests.{by-zero, by-test, cond-cases}
-use Rattle.panel.proofs.Laws.Contents.{value-bytes, value-padded}
+use Rattle.panel.proofs.Laws.Contents.{bytesOf, PaddedValue, value-bytes, value-padded}
 use Rattle.panel.proofs.Laws.Calls.{look-refused, look-accepted}
 use Rattle.panel.proofs.Laws.Faults.{faultOn, acceptedBy, answer-refused, answer-accepted, refused-kept, panel-looked}
 use Rattle.panel.proofs.Laws.Agreement.{fresh-agrees, place-hold}
@@ -160,7 +160,7 @@ module _ (R : Reader) (cs : List Call) (i now : ℕ) where
     tile-shown : Kept R cs i x → Shown R cs i now (lookAnswer (lookedAt p x now .answer) (lookedAt p x now .value))
     tile-shown (silent h q) = subst (Shown R cs i now) (sym (shown-as false (x .«since_link») recent h refl refl)) (silent-shown q)
     tile-shown (heard k m h d v f o u) =
-        let e : valueBytes (x .value) ≡ valueFor m = ap valueBytes v ∙ value-bytes (valueFor m) f in
+        let e : bytesOf (x .value) ≡ valueFor m = ap bytesOf v ∙ value-bytes (valueFor m) f in
         ⊎-elim
         (λ w.
         by-test recent
@@ -196,15 +196,15 @@ module _ (R : Reader) (cs : List Call) (p : Panel) (G : Invariant R cs p) where
 
   -- ---- the value beside a look's answer
 
-  tile-padded : (x : Tile) (i now : ℕ) → Kept R cs i x → Padded (lookedAt p x now .value)
-  tile-padded x i now (silent h q) = subst Padded (sym (ap (λ (t : Bool). cond t (x .value) noValue) h)) (value-padded [] (omega arith))
+  tile-padded : (x : Tile) (i now : ℕ) → Kept R cs i x → PaddedValue (lookedAt p x now .value)
+  tile-padded x i now (silent h q) = subst PaddedValue (sym (ap (λ (t : Bool). cond t (x .value) noValue) h)) (value-padded [] (omega arith))
   tile-padded x i now (heard k m h d v f o u) =
-      subst Padded (sym (ap (λ (t : Bool). cond t (x .value) noValue) h ∙ v)) (value-padded (valueFor m) f)
+      subst PaddedValue (sym (ap (λ (t : Bool). cond t (x .value) noValue) h ∙ v)) (value-padded (valueFor m) f)
 
-  pub look-padded : (i now : ℕ) → Padded (lookOf p i now .value)
+  pub look-padded : (i now : ℕ) → PaddedValue (lookOf p i now .value)
   unfolding lookOf
   look-padded i now =
-      cond-cases (λ (r : LookResult). Padded (r .value)) (eqb (lookFault p i now) 0) (lookedAt p (getD (p .tiles) i noTile) now)
+      cond-cases (λ (r : LookResult). PaddedValue (r .value)) (eqb (lookFault p i now) 0) (lookedAt p (getD (p .tiles) i noTile) now)
       (refusedLook p (lookFault p i now)) (λ q. tile-padded _ i now (G .kept i)) (λ q. value-padded [] (omega arith))
 
 -- ---- no colour, no value
@@ -218,8 +218,8 @@ module _ (p : Panel) (i now : ℕ) where
     where
       blank : (h c : Bool) (a : ℕ) (v : Value) → Blank (record { panel = p; answer = cond h (cond c (Green a) (Grey a)) Empty; value = cond h v noValue })
       blank false c a v g = refl
-      blank true true a v g = absurd (g (inl (a, valueBytes v, refl)))
-      blank true false a v g = absurd (g (inr (a, valueBytes v, refl)))
+      blank true true a v g = absurd (g (inl (a, bytesOf v, refl)))
+      blank true false a v g = absurd (g (inr (a, bytesOf v, refl)))
 
   look-blank : Blank (lookOf p i now)
   look-blank =

@@ -26,9 +26,9 @@ use Rattle.panel.specs.declared.LookAnswer.{LookAnswer}
 use Rattle.panel.specs.declared.LookAnswer.the-variants as look-answer
 use Rattle.panel.specs.declared.Value.{Value}
 use Rattle.panel.specs.Calls.{freshPanel, addOf, linkOf, messageOf, lookOf}
-use Rattle.panel.specs.Answers.{addAnswer, lookAnswer, valueBytes, Padded}
+use Rattle.panel.specs.Answers.{addAnswer, lookAnswer}
 use Rattle.panel.specs.Demand3.{answerTo, panelNext, panelAfter}
-use Rattle.panel.proofs.Laws.Contents.{value-padded}
+use Rattle.panel.proofs.Laws.Contents.{bytesOf, PaddedValue, value-padded}
 use Rattle.panel.proofs.Laws.Demand3.{demand-3}
 use Rattle.replay.specs.declared.CallAnswer.{CallAnswer}
 use Rattle.replay.specs.declared.CallAnswer.the-variants.{Accepted, Refused}
@@ -100,13 +100,13 @@ call-says : (t : Bool) (n : ℕ) (v : List ℕ) → saying (cond t Accepted (Ref
 call-says true n v = refl
 call-says false n v = refl
 
-look-says : (a : LookAnswer) (v : Value) → saying (shownAs a) (valueBytes v) ≡ some (lookAnswer a v)
+look-says : (a : LookAnswer) (v : Value) → saying (shownAs a) (bytesOf v) ≡ some (lookAnswer a v)
 look-says look-answer.Empty v = refl
 look-says (look-answer.Green a) v = refl
 look-says (look-answer.Grey a) v = refl
 look-says (look-answer.Refused n) v = refl
 
-performed-says : (p : Panel) (c : Call) → saying (performed p c .answered .answer) (valueBytes (performed p c .answered .value)) ≡ some (answerTo p c)
+performed-says : (p : Panel) (c : Call) → saying (performed p c .answered .answer) (bytesOf (performed p c .answered .value)) ≡ some (answerTo p c)
 unfolding performed
 performed-says p (add t n h) = add-says (addOf p t n h .answer) _
 performed-says p (linkUp t) = call-says (eqb (linkOf true p t .number) 0) _ _
@@ -117,7 +117,7 @@ performed-says p (look i now) = look-says (lookOf p i now .answer) (lookOf p i n
 -- ---- demand 3 of the call c after the calls cs
 
 module _ (cs : List Call) (bytes : Each OfBytes cs) where
-  performed-padded : (c : Call) → Padded (performed (panelAfter cs) c .answered .value)
+  performed-padded : (c : Call) → PaddedValue (performed (panelAfter cs) c .answered .value)
   unfolding performed
   performed-padded (add t n h) = value-padded [] (omega arith)
   performed-padded (linkUp t) = value-padded [] (omega arith)
