@@ -30,21 +30,21 @@ pub data Answer : Type 0 where
   green : (age : ℕ) (value : List ℕ) → Answer
   grey : (age : ℕ) (value : List ℕ) → Answer
 
--- a value as it is handed out, 48 bytes and a length: its own bytes
+-- a value is handed out as 48 bytes and a length: the bytes that are its own
 abbrev pub valueBytes : List ℕ → ℕ → List ℕ
 valueBytes bytes len = take len bytes
 
--- the length is theirs, at most 48, and past them are zeros
+-- the length is that of its own bytes, at most 48, and zeros follow them
 pub record Padded (bytes : List ℕ) (len : ℕ) : Type 0 where
   pub count : length (valueBytes bytes len) ≡ len
   pub fits : len ≤ 48
   pub zeros : bytes ≡ valueBytes bytes len ++ replicate (48 - len) 0
 
 -- document 01's number of each answer
-abbrev pub numberOf : Answer → ℕ
-numberOf (refused n) = n
-numberOf accepted = 0
-numberOf (added i) = 0
-numberOf empty = 0
-numberOf (green a v) = 0
-numberOf (grey a v) = 0
+abbrev pub answerNumber : Answer → ℕ
+answerNumber (refused n) = n
+answerNumber accepted = 0
+answerNumber (added i) = 0
+answerNumber empty = 0
+answerNumber (green a v) = 0
+answerNumber (grey a v) = 0

@@ -40,7 +40,7 @@ IsGreen a = (age : ℕ) × (value : List ℕ) × (a ≡ green age value)
 abbrev pub IsGrey : Answer → Type 0
 IsGrey a = (age : ℕ) × (value : List ℕ) × (a ≡ grey age value)
 
--- a value goes with green and grey alone
+-- it is green or grey: a value goes with it
 abbrev pub IsColoured : Answer → Type 0
 IsColoured a = IsGreen a ⊎ IsGrey a
 
@@ -62,13 +62,13 @@ module _ (R : Reader) where
     pub counts-for : CountsFor (summaryBefore cs k) (callAt cs k) i clock m
 
   -- an accepted link call
-  pub record Linked (b : Summary) (c : Call) : Type 0 where
+  pub record LinkCall (b : Summary) (c : Call) : Type 0 where
     pub link : IsLink c
     pub accepted : numberOn R b c ≡ 0
 
   -- no accepted link call stands after place k
-  abbrev pub Unlinked : List Call → ℕ → Type 0
-  Unlinked cs k = (j : ℕ) → k < j → j < length cs → Linked (summaryBefore cs j) (callAt cs j) → ⊥
+  abbrev pub NoLinkAfter : List Call → ℕ → Type 0
+  NoLinkAfter cs k = (j : ℕ) → k < j → j < length cs → LinkCall (summaryBefore cs j) (callAt cs j) → ⊥
 
   -- demand 3's condition for green
   pub record Current (cs : List Call) (i now : ℕ) : Type 0 where
@@ -76,12 +76,12 @@ module _ (R : Reader) where
     pub clock : ℕ
     pub message : Message
     pub counted : Counted cs i place clock message
-    pub unlinked : Unlinked cs place
+    pub unlinked : NoLinkAfter cs place
     pub no-older : now - clock ≤ holdTimeOf (tileAt (summaryOf R cs) i)
 
   -- no message counted for the tile
-  abbrev pub Silent : List Call → ℕ → Type 0
-  Silent cs i = (k t : ℕ) (m : Message) → Counted cs i k t m → ⊥
+  abbrev pub NoneCounted : List Call → ℕ → Type 0
+  NoneCounted cs i = (k t : ℕ) (m : Message) → Counted cs i k t m → ⊥
 
   -- the message at place k is the last that counted for the tile
   pub record Last (cs : List Call) (i k clock : ℕ) (m : Message) : Type 0 where
@@ -94,14 +94,15 @@ module _ (R : Reader) where
     pub clock : ℕ
     pub message : Message
     pub last : Last cs i place clock message
+    pub not-later : clock ≤ now
     pub shown : (a ≡ green (now - clock) (valueFor message)) ⊎ (a ≡ grey (now - clock) (valueFor message))
 
   -- what a look at tile i shows after the calls cs
   pub record Shown (cs : List Call) (i now : ℕ) (a : Answer) : Type 0 where
     pub is-green : IsGreen a ↔ Current cs i now
-    pub is-empty : (a ≡ empty) ↔ Silent cs i
-    pub is-grey : IsGrey a ↔ ((Silent cs i → ⊥) × (Current cs i now → ⊥))
-    pub of-last : Silent cs i ⊎ OfLast cs i now a
+    pub is-empty : (a ≡ empty) ↔ NoneCounted cs i
+    pub is-grey : IsGrey a ↔ ((NoneCounted cs i → ⊥) × (Current cs i now → ⊥))
+    pub of-last : NoneCounted cs i ⊎ OfLast cs i now a
 
   -- what a call answers that is not refused; an add, the number of tiles before it
   abbrev pub Accepted : List Call → Call → Answer → Type 0

@@ -4,3 +4,4 @@ pub mod Calls
 pub mod Reading
 pub mod Summary
 pub mod History
+pub mod Examples

@@ -5,8 +5,8 @@ use mathlib.Core.Bool.{true, false}
 use mathlib.Core.List.{List, foldl}
 use lib.ListN.{length, take}
 use Rattle.fields.specs.Lists.{Each}
-use Rattle.history.specs.Calls.{Call, add, linkUp, linkDown, message, look, OfBytes, Answer, Padded, numberOf}
-use Rattle.history.specs.Reading.{Reader}
+use Rattle.history.specs.Calls.{Call, add, linkUp, linkDown, message, look, OfBytes, Answer, Padded, answerNumber}
+use Rattle.history.specs.Reading.{Reader, Readers}
 use Rattle.history.specs.History.{callAt, IsColoured, Answers}
 use Rattle.panel.specs.declared.Panel.{Panel}
 use Rattle.panel.specs.Answers.{addAnswer, callAnswer, lookAnswer}
@@ -41,10 +41,11 @@ pub record Claim (R : Reader) (cs : List Call) : Type 0 where
   pub padded : (i now : ℕ) → Padded (lookOf (panelAfter cs) i now .value .bytes) (lookOf (panelAfter cs) i now .value .len)
 
 pub record Demand3 : Type 0 where
-  -- with any reader of demand 2; that there is one, and only one, is `Readers` of crate history
+  -- with any reader of demand 2; there is one, and any two agree on all bytes
+  pub readers : Readers
   pub claim : (R : Reader) (cs : List Call) → Each OfBytes cs → Claim R cs
   -- a refused call gives the panel back unchanged, and so does every look, for every panel
-  pub refused : (p : Panel) (c : Call) → (numberOf (answerTo p c) ≡ 0 → ⊥) → panelNext p c ≡ p
+  pub refused : (p : Panel) (c : Call) → (answerNumber (answerTo p c) ≡ 0 → ⊥) → panelNext p c ≡ p
   pub looked : (p : Panel) (i now : ℕ) → panelNext p (look i now) ≡ p
   -- a look that is neither green nor grey has no value, for every panel
   pub no-value : (p : Panel) (i now : ℕ) → (IsColoured (answerTo p (look i now)) → ⊥) → lookOf p i now .value .len ≡ 0

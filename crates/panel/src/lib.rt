@@ -24,7 +24,7 @@ pub struct Label {
 }
 
 // A place of the table: whether a tile has it, which one, and the last message that counted for it, if any was heard: its clock, its
-// value, and whether it came since the last link call.
+// value, and whether it came since the last accepted link call.
 pub struct Tile {
     used: bool,
     label: Label,
@@ -41,7 +41,7 @@ pub struct Link {
     clock: u64,
 }
 
-// What is proved of a panel is assumed to be used so:
+// What is proved of a panel assumes that it is used so:
 // - Each call gets the panel that the last call gave back. A copy of an older panel that is kept and used again shows older colours.
 // - All clocks come from one monotonic source, in milliseconds. A clock that steps back is refused with 15, and one that stands still keeps
 //   a tile green.
@@ -202,6 +202,7 @@ fn hear(tile: Tile, label: Label, clock: u64, value: Value) -> Tile
     }
 }
 
+// How much later one clock is than another; 0 where it is not, which the check of a look's clock rules out.
 fn age(now: u64, then: u64) -> u64
     ensures { λ r. ⌜ r ≡ now - then ⌝ }
 {

@@ -1,15 +1,16 @@
 -- The panel's checks are the book's.
-use Prim.Native.Nat.{ℕ, zero, suc}
+use Prim.Native.Nat.{ℕ, zero, suc, _≤_}
 use mathlib.Core.Path.{_≡_, refl, ap, ap₂, _∙_}
 use mathlib.Core.Bool.{Bool, true, cond}
 use mathlib.Core.List.{List}
 use native.Mathlib.Omega.{arith}
-use lib.Dec.{leb}
+use lib.Dec.{leb, ltb}
 use lib.ListN.{length}
+use borrow.Author.Tests.{ltb-false}
 use Rattle.fields.specs.Bytes.{Bytes}
 use Rattle.fields.specs.Lists.{any}
 use Rattle.fields.specs.Checks.{orElse}
-use Rattle.fields.proofs.Laws.Checks.{cond-pass}
+use Rattle.fields.proofs.Laws.Checks.{cond-pass, cond-fault}
 use Rattle.content.specs.Tree.{typeText}
 use Rattle.message.specs.Message.{Message, Parts}
 use Rattle.message.specs.Check.{readOf}
@@ -38,6 +39,10 @@ else-same (suc a) x y h = refl
 pub allowed-passed : (t n : List ℕ) (h : ℕ) → allowedFault t n h ≡ 0 → isAllowed t n h ≡ true
 unfolding allowedFault
 allowed-passed t n h e = cond-pass (isAllowed t n h) 15 0 e .0
+
+pub clock-passed : (clock t : ℕ) → clockFault clock t ≡ 0 → clock ≤ t
+unfolding clockFault
+clock-passed clock t z = ltb-false t clock (cond-fault (ltb t clock) 14 0 z .0)
 
 -- ---- what the reader hands out of bytes that a message begins
 

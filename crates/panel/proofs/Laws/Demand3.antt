@@ -14,8 +14,8 @@ use Rattle.fields.proofs.Laws.Checks.{zero-else, cond-pass}
 use Rattle.message.specs.Message.{Message}
 use Rattle.history.specs.Calls.{Call, add, linkUp, linkDown, message, look, OfBytes, Answer, refused, accepted, added, empty, green, grey}
 use Rattle.history.specs.Reading.{Reader}
-use Rattle.history.specs.Summary.{tileAt, isThere, numberOn, summaryOf}
-use Rattle.history.specs.History.{callAt, holdTimeOf, valueFor, IsColoured, Counted, Unlinked, Current, Silent, Last, Shown, Accepted, Answers}
+use Rattle.history.specs.Summary.{tileAt, isThere, numberOn, summaryOf, clockFault}
+use Rattle.history.specs.History.{callAt, holdTimeOf, valueFor, IsColoured, Counted, NoLinkAfter, Current, NoneCounted, Last, Shown, Accepted, Answers}
 use Rattle.panel.specs.declared.Value.{Value}
 use Rattle.panel.specs.declared.Tile.{Tile}
 use Rattle.panel.specs.declared.Panel.{Panel}
@@ -26,12 +26,13 @@ use Rattle.panel.specs.Calls.{freshPanel, lookFault, lookedAt, refusedLo
 use Rattle.panel.specs.Answers.{lookAnswer}
 use Rattle.panel.specs.Demand3.{answerTo, panelNext, panelAfter, Demand3}
 use Rattle.fields.proofs.Laws.Tests.{by-zero, by-test, cond-cases}
+use Rattle.history.proofs.Laws.Readings.{readers}
 use Rattle.panel.proofs.Laws.Contents.{bytesOf, PaddedValue, value-bytes, value-padded}
 use Rattle.panel.proofs.Laws.Calls.{look-refused, look-accepted}
 use Rattle.panel.proofs.Laws.Faults.{faultOn, acceptedBy, answer-refused, answer-accepted, refused-kept, panel-looked}
 use Rattle.panel.proofs.Laws.Agreement.{fresh-agrees, place-hold}
 use Rattle.panel.proofs.Laws.History.{Kept, silent, heard}
-use Rattle.panel.proofs.Laws.Checked.{next-free, fault-same}
+use Rattle.panel.proofs.Laws.Checked.{clock-passed, next-free, fault-same}
 use Rattle.panel.proofs.Laws.Step.{Invariant, step}
 
 -- ---- what is known after any sequence of calls
@@ -62,7 +63,7 @@ good-from R done (c ∷ todo) o G =
     (good-from R (done ++ (c ∷ [])) todo (o .1)
     (subst (Invariant R (done ++ (c ∷ []))) (sym (panel-more done c)) (step R done (panelAfter done) G c (o .0))))
 
-pub good : (R : Reader) (cs : List Call) → Each OfBytes cs → Invariant R cs (panelAfter cs)
+good : (R : Reader) (cs : List Call) → Each OfBytes cs → Invariant R cs (panelAfter cs)
 good R cs o = good-from R [] cs o (fresh-good R)
 
 -- ---- what a tile shows
@@ -85,27 +86,27 @@ isEmpty (grey a v) = false
 
 module _ (R : Reader) (cs : List Call) (i now : ℕ) where
   module _ (k t : ℕ) (m : Message) (hold : ℕ) (same-hold : hold ≡ holdTimeOf (tileAt (summaryOf R cs) i)) (d : Counted R cs i k t m)
-      (o : (j u : ℕ) (n : Message) → Counted R cs i j u n → (j ≤ k) × (u ≤ t)) where
+      (late : t ≤ now) (o : (j u : ℕ) (n : Message) → Counted R cs i j u n → (j ≤ k) × (u ≤ t)) where
     -- where an earlier message would make the tile green, the last one does
-    at-last : Current R cs i now → Unlinked R cs k × (now - t ≤ hold)
+    at-last : Current R cs i now → NoLinkAfter R cs k × (now - t ≤ hold)
     at-last g =
         let w = o (g .place) (g .clock) (g .message) (g .counted) in
         ((λ j kj. g .unlinked j (omega (arith, w .0))), omega (arith, w .1, g .no-older, same-hold))
 
-    not-silent : Silent R cs i → ⊥
+    not-silent : NoneCounted R cs i → ⊥
     not-silent q = q k t m d
 
     last-is : Last R cs i k t m
     last-is = record { counted = d; last = λ j u n e. o j u n e .0 }
 
-    green-shown : Unlinked R cs k → now - t ≤ hold → Shown R cs i now (green (now - t) (valueFor m))
+    green-shown : NoLinkAfter R cs k → now - t ≤ hold → Shown R cs i now (green (now - t) (valueFor m))
     green-shown u h =
         let g : Current R cs i now = record { place = k; clock = t; message = m; counted = d; unlinked = u; no-older = omega (arith, h, same-hold) } in
         record {
           is-green = ((λ y. g), (λ y. (now - t, valueFor m, refl)));
           is-empty = ((λ y. absurd (no-answer y)), (λ q. absurd (not-silent q)));
           is-grey = ((λ y. absurd (no-grey (y .0) (y .1) (y .2))), (λ y. absurd (y .1 g)));
-          of-last = inr (record { place = k; clock = t; message = m; last = last-is; shown = inl refl });
+          of-last = inr (record { place = k; clock = t; message = m; last = last-is; not-later = late; shown = inl refl });
         }
       where
         no-answer : green (now - t) (valueFor m) ≡ empty → ⊥
@@ -120,7 +121,7 @@ module _ (R : Reader) (cs : List Call) (i now : ℕ) where
           is-green = ((λ y. absurd (no-green (y .0) (y .1) (y .2))), (λ y. absurd (n y)));
           is-empty = ((λ y. absurd (no-answer y)), (λ q. absurd (not-silent q)));
           is-grey = ((λ y. (not-silent, n)), (λ y. (now - t, valueFor m, refl)));
-          of-last = inr (record { place = k; clock = t; message = m; last = last-is; shown = inr refl });
+          of-last = inr (record { place = k; clock = t; message = m; last = last-is; not-later = late; shown = inr refl });
         }
       where
         no-green : (a : ℕ) (v : List ℕ) → grey (now - t) (valueFor m) ≡ green a v → ⊥
@@ -129,7 +130,7 @@ module _ (R : Reader) (cs : List Call) (i now : ℕ) where
         no-answer : grey (now - t) (valueFor m) ≡ empty → ⊥
         no-answer y = false≢true (ap isEmpty y)
 
-  silent-shown : Silent R cs i → Shown R cs i now empty
+  silent-shown : NoneCounted R cs i → Shown R cs i now empty
   silent-shown q =
       record {
         is-green = ((λ y. absurd (no-green (y .0) (y .1) (y .2))), (λ g. absurd (q (g .place) (g .clock) (g .message) (g .counted))));
@@ -144,7 +145,8 @@ module _ (R : Reader) (cs : List Call) (i now : ℕ) where
       no-grey : (a : ℕ) (v : List ℕ) → empty ≡ grey a v → ⊥
       no-grey a v y = false≢true (sym (ap isEmpty y))
 
-  module _ (p : Panel) (x : Tile) (same-hold : x .«hold_time» ≡ holdTimeOf (tileAt (summaryOf R cs) i)) where
+  module _ (p : Panel) (x : Tile) (same-hold : x .«hold_time» ≡ holdTimeOf (tileAt (summaryOf R cs) i))
+      (in-time : (k t : ℕ) (m : Message) → Counted R cs i k t m → t ≤ now) where
     -- by whether a message was heard, came since the last link call, and is no older than the hold time
     abbrev shownAs : Bool → Bool → Bool → Answer
     shownAs h s l = lookAnswer (cond h (cond (s && l) (Green (now - x .clock)) (Grey (now - x .clock))) Empty) (cond h (x .value) noValue)
@@ -165,28 +167,33 @@ module _ (R : Reader) (cs : List Call) (i now : ℕ) where
         (λ w.
         by-test recent
         (λ q. subst (Shown R cs i now) (sym (shown-as true true true h (w .0) q ∙ ap (green (now - x .clock)) e))
-        (green-shown k (x .clock) m (x .«hold_time») same-hold d o (w .1) (leb-true _ _ q)))
+        (green-shown k (x .clock) m (x .«hold_time») same-hold d (in-time k (x .clock) m d) o (w .1) (leb-true _ _ q)))
         (λ q. subst (Shown R cs i now) (sym (shown-as true true false h (w .0) q ∙ ap (grey (now - x .clock)) e))
-        (grey-shown k (x .clock) m (x .«hold_time») same-hold d o
-        (λ g. omega (arith, leb-false (now - x .clock) (x .«hold_time») q, at-last k (x .clock) m (x .«hold_time») same-hold d o g .1)))))
+        (grey-shown k (x .clock) m (x .«hold_time») same-hold d (in-time k (x .clock) m d) o
+        (λ g. omega (arith, leb-false (now - x .clock) (x .«hold_time») q, at-last k (x .clock) m (x .«hold_time») same-hold d (in-time k (x .clock) m d) o g .1)))))
         (λ w. subst (Shown R cs i now) (sym (shown-as true false recent h (w .0) refl ∙ ap (grey (now - x .clock)) e))
-        (grey-shown k (x .clock) m (x .«hold_time») same-hold d o (λ g. w .1 (at-last k (x .clock) m (x .«hold_time») same-hold d o g .0))))
+        (grey-shown k (x .clock) m (x .«hold_time») same-hold d (in-time k (x .clock) m d) o (λ g. w .1 (at-last k (x .clock) m (x .«hold_time») same-hold d (in-time k (x .clock) m d) o g .0))))
         u
 
 -- ---- what a call answers
 
 module _ (R : Reader) (cs : List Call) (p : Panel) (G : Invariant R cs p) where
-  look-passed : (i now : ℕ) → numberOn R (summaryOf R cs) (look i now) ≡ 0 → isThere (tileAt (summaryOf R cs) i) ≡ true
-  look-passed i now z = cond-pass (isThere (tileAt (summaryOf R cs) i)) 18 0 (zero-else _ _ z .0) .0
+  -- a look that is not refused: the tile is there, and the clock is not behind
+  look-passed : (i now : ℕ) → numberOn R (summaryOf R cs) (look i now) ≡ 0 → (isThere (tileAt (summaryOf R cs) i) ≡ true) × (summaryOf R cs .clock ≤ now)
+  look-passed i now z =
+      let y = zero-else (cond (isThere (tileAt (summaryOf R cs) i)) 0 19) (clockFault (summaryOf R cs .clock) now) z in
+      (cond-pass (isThere (tileAt (summaryOf R cs) i)) 18 0 (y .0) .0, clock-passed (summaryOf R cs .clock) now (y .1))
 
   accepted-answer : (c : Call) → numberOn R (summaryOf R cs) c ≡ 0 → Accepted R cs c (acceptedBy p c)
   accepted-answer (add t n h) z = ap added (next-free p (summaryOf R cs) (G .agrees))
   accepted-answer (linkUp t) z = refl
   accepted-answer (linkDown t) z = refl
   accepted-answer (message t s) z = refl
-  accepted-answer (look i now) z = tile-shown R cs i now p _ (place-hold (G .agrees .places i) (look-passed i now z)) (G .kept i)
+  accepted-answer (look i now) z =
+      let w = look-passed i now z in
+      tile-shown R cs i now p _ (place-hold (G .agrees .places i) (w .0)) (λ k t m d. omega (arith, w .1, G .known i k t m d)) (G .kept i)
 
-  pub answers : (c : Call) → OfBytes c → Answers R cs c (answerTo p c)
+  answers : (c : Call) → OfBytes c → Answers R cs c (answerTo p c)
   answers c o =
       let e : faultOn p c ≡ numberOn R (summaryOf R cs) c = fault-same p (summaryOf R cs) (G .agrees) R c o in
       record {
@@ -201,7 +208,7 @@ module _ (R : Reader) (cs : List Call) (p : Panel) (G : Invariant R cs p) where
   tile-padded x i now (heard k m h d v f o u) =
       subst PaddedValue (sym (ap (λ (t : Bool). cond t (x .value) noValue) h ∙ v)) (value-padded (valueFor m) f)
 
-  pub look-padded : (i now : ℕ) → PaddedValue (lookOf p i now .value)
+  look-padded : (i now : ℕ) → PaddedValue (lookOf p i now .value)
   unfolding lookOf
   look-padded i now =
       cond-cases (λ (r : LookResult). PaddedValue (r .value)) (eqb (lookFault p i now) 0) (lookedAt p (getD (p .tiles) i noTile) now)
@@ -237,6 +244,7 @@ each-at (suc k) (c ∷ cs) o = each-at k cs (o .1)
 pub demand-3 : Demand3
 demand-3 =
     record {
+      readers = readers;
       claim = λ R cs o.
           record {
             inside = λ k l. answers R (take k cs) (panelAfter (take k cs)) (good R (take k cs) (each-take OfBytes k cs o)) (callAt cs k) (each-at k cs o);

@@ -5,7 +5,7 @@ use mathlib.Core.Bool.{Bool, true, false, cond}
 use lib.ListN.{getD}
 use borrow.Author.Tests.{ne-eqb}
 use Rattle.message.specs.Check.{readOf}
-use Rattle.history.specs.Calls.{Call, add, linkUp, linkDown, message, look, Answer, refused, accepted, added, numberOf}
+use Rattle.history.specs.Calls.{Call, add, linkUp, linkDown, message, look, Answer, refused, accepted, added, answerNumber}
 use Rattle.history.specs.Summary.{clockFault}
 use Rattle.panel.specs.declared.Panel.{Panel}
 use Rattle.panel.specs.declared.AddResult.{AddResult}
@@ -81,9 +81,9 @@ answer-accepted p (look i now) e = ap (λ (r : LookResult). lookAnswer (r .answe
 
 -- ---- a call whose number is not 0 is refused; a look changes no panel
 
-pub refused-kept : (p : Panel) (c : Call) → (numberOf (answerTo p c) ≡ 0 → ⊥) → panelNext p c ≡ p
-refused-kept p (add t n h) z = panel-refused p (add t n h) (λ e. z (ap numberOf (answer-accepted p (add t n h) e)))
-refused-kept p (linkUp t) z = panel-refused p (linkUp t) (λ e. z (ap numberOf (answer-accepted p (linkUp t) e)))
-refused-kept p (linkDown t) z = panel-refused p (linkDown t) (λ e. z (ap numberOf (answer-accepted p (linkDown t) e)))
-refused-kept p (message t s) z = panel-refused p (message t s) (λ e. z (ap numberOf (answer-accepted p (message t s) e)))
+pub refused-kept : (p : Panel) (c : Call) → (answerNumber (answerTo p c) ≡ 0 → ⊥) → panelNext p c ≡ p
+refused-kept p (add t n h) z = panel-refused p (add t n h) (λ e. z (ap answerNumber (answer-accepted p (add t n h) e)))
+refused-kept p (linkUp t) z = panel-refused p (linkUp t) (λ e. z (ap answerNumber (answer-accepted p (linkUp t) e)))
+refused-kept p (linkDown t) z = panel-refused p (linkDown t) (λ e. z (ap answerNumber (answer-accepted p (linkDown t) e)))
+refused-kept p (message t s) z = panel-refused p (message t s) (λ e. z (ap answerNumber (answer-accepted p (message t s) e)))
 refused-kept p (look i now) z = panel-looked p i now

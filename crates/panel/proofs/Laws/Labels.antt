@@ -23,8 +23,12 @@ use Rattle.fields.proofs.Laws.Tests.{by-test}
 
 -- ---- an allowed tile
 
+-- the type is the text TRANSFORM or POSITION
+abbrev pub IsPose : List ℕ → Type 0
+IsPose t = (t ≡ transformText) ⊎ (t ≡ positionText)
+
 pub record Allowed (t n : List ℕ) : Type 0 where
-  pub pose : (t ≡ transformText) ⊎ (t ≡ positionText)
+  pub pose : IsPose t
   pub name-text : Text n
   pub name-fits : length n ≤ 20
 
@@ -40,7 +44,7 @@ allowed t n h e =
       name-fits = leb-true (length n) 20 (c .0);
     }
 
-pose-text : (t : List ℕ) → (t ≡ transformText) ⊎ (t ≡ positionText) → Text t × (length t ≤ 12)
+pose-text : (t : List ℕ) → IsPose t → Text t × (length t ≤ 12)
 unfolding isText all
 pose-text t p =
     ⊎-elim

@@ -9,12 +9,11 @@ use native.Mathlib.Omega.{arith}
 use lib.Dec.{eqb}
 use lib.ListN.{length, getD, set, length-map, length-set, List·getD-map}
 use lib.Seq.{getD-set-same, getD-set-other}
-use borrow.Author.Tests.{eqb-true, eqb-false, eq-eqb, ne-eqb, ltb-false, leb-false}
+use borrow.Author.Tests.{eqb-true, eqb-false, eq-eqb, ne-eqb, leb-false}
 use Rattle.fields.specs.Bytes.{same, Bytes}
 use Rattle.fields.specs.Lists.{any}
 use Rattle.fields.proofs.Laws.Bytes.{same-eq}
 use Rattle.fields.proofs.Laws.Checks.{zero-else, cond-fault, cond-pass, and-split}
-use Rattle.content.specs.Kinds.{transformText, positionText}
 use Rattle.content.specs.Check.{deepest}
 use Rattle.content.specs.Tree.{typeText}
 use Rattle.message.specs.Message.{Message, WellFormed, encode}
@@ -25,7 +24,7 @@ use Rattle.history.specs.Calls.{Call, add, linkUp, linkDown, message, look, OfB
 use Rattle.history.specs.Reading.{Reading, Reads, Reader}
 use Rattle.history.specs.Reading as reading
 use Rattle.history.specs.Summary.{Entry, Summary, tileIn, tileAt, passes, carries, allowedFault, clockFault, isFull, readingNumber, isOf, isAllowed, numberOn, noted, summaryOf}
-use Rattle.history.specs.History.{CountsFor, Counted, Linked, Silent}
+use Rattle.history.specs.History.{CountsFor, Counted, LinkCall, NoneCounted}
 use Rattle.panel.specs.declared.Label.{Label}
 use Rattle.panel.specs.declared.Tile.{Tile}
 use Rattle.panel.specs.declared.Panel.{Panel}
@@ -34,12 +33,13 @@ use Rattle.panel.specs.Calls.{labelIn, valueIn, entered, linked, receive
 use Rattle.panel.specs.Demand3.{panelNext}
 use Rattle.fields.proofs.Laws.Tests.{by-test, by-zero, true-false, cond-cases}
 use Rattle.history.proofs.Laws.Readings.{begins-one, none-number}
-use Rattle.panel.proofs.Laws.Labels.{allowed}
+use Rattle.panel.proofs.Laws.Labels.{IsPose, allowed}
 use Rattle.panel.proofs.Laws.Contents.{pose-short}
 use Rattle.panel.proofs.Laws.Faults.{faultOn, changedBy, panel-refused, panel-changed}
 use Rattle.panel.proofs.Laws.Agreement.{PlaceAgrees, vacant, taken, Agrees, place-heard, place-is, free-unused, tile-more}
-use Rattle.panel.proofs.Laws.History.{summary-more, Kept, silent, silent-of, longer, counted-cases, keep, relink-kept, hear-kept}
-use Rattle.panel.proofs.Laws.Checked.{allowed-passed, begun-label, begun-value, next-free, fault-same}
+use Rattle.history.proofs.Laws.Longer.{summary-more, longer, counted-cases}
+use Rattle.panel.proofs.Laws.History.{Kept, silent, silent-of, keep, relink-kept, hear-kept}
+use Rattle.panel.proofs.Laws.Checked.{allowed-passed, clock-passed, begun-label, begun-value, next-free, fault-same}
 
 -- what is known of a panel after the calls cs
 pub record Invariant (R : Reader) (cs : List Call) (p : Panel) : Type 0 where
@@ -85,7 +85,7 @@ module _ (R : Reader) (cs : List Call) (p : Panel) (G : Invariant R cs p) where
         (⊎-elim (λ o. omega (arith, h, G .known i k t m o)) (λ w. n i t m (w .1)) (counted-cases R cs c i k t m d))
 
     -- a call that neither counts nor links
-    quiet : summaryOf R (longer R cs c) ≡ b → ((i t : ℕ) (m : Message) → CountsFor R b c i t m → ⊥) → (Linked R b c → ⊥)
+    quiet : summaryOf R (longer R cs c) ≡ b → ((i t : ℕ) (m : Message) → CountsFor R b c i t m → ⊥) → (LinkCall R b c → ⊥)
         → Invariant R (longer R cs c) p
     quiet e n l =
         record {
@@ -98,7 +98,7 @@ module _ (R : Reader) (cs : List Call) (p : Panel) (G : Invariant R cs p) where
     refused-good z = quiet (book-kept z) (λ i t m d. z (d .counts)) (λ l. z (l .accepted))
 
     -- an accepted link call
-    link-good : (up : Bool) (t : ℕ) → isMessage c ≡ false → Linked R b c → b .clock ≤ t
+    link-good : (up : Bool) (t : ℕ) → isMessage c ≡ false → LinkCall R b c → b .clock ≤ t
         → summaryOf R (longer R cs c) ≡ record { tiles = b .tiles; up = up; clock = t } → Invariant R (longer R cs c) (linked p up t)
     link-good up t o l h e =
         record {
@@ -114,10 +114,6 @@ module _ (R : Reader) (cs : List Call) (p : Panel) (G : Invariant R cs p) where
 
         place-at : (i : ℕ) → PlaceAgrees (getD (map relinked (p .tiles)) i noTile) (tileIn (b .tiles) i)
         place-at i = at-map (λ x. PlaceAgrees x (tileIn (b .tiles) i)) relinked refl i (relink-place (G .agrees .places i))
-
-  clock-passed : (t : ℕ) → clockFault (b .clock) t ≡ 0 → b .clock ≤ t
-  unfolding clockFault
-  clock-passed t z = ltb-false t (b .clock) (cond-fault _ 14 0 z .0)
 
   -- ---- a tile more
 
@@ -161,7 +157,7 @@ module _ (R : Reader) (cs : List Call) (p : Panel) (G : Invariant R cs p) where
         (cond-cases (Kept R (longer R cs call) i) (eqb i place) tile (getD (p .tiles) i noTile)
         (λ q.
         let f : getD (p .tiles) i noTile .used ≡ false = ap (λ (j : ℕ). getD (p .tiles) j noTile .used) (eqb-true i place q) ∙ free-unused (p .tiles) in
-        let o : Silent R cs i = silent-of R cs i _ (place-heard (G .agrees .places i) f) (G .kept i) in
+        let o : NoneCounted R cs i = silent-of R cs i _ (place-heard (G .agrees .places i) f) (G .kept i) in
         silent refl (λ k u m d. ⊎-elim (o k u m) (λ w. no-count R b call refl i u m (w .1)) (counted-cases R cs call i k u m d)))
         (λ q. keep R cs call i _ (no-count R b call refl i) (λ l. l .link) (G .kept i)))
 
@@ -228,7 +224,7 @@ module _ (R : Reader) (cs : List Call) (p : Panel) (G : Invariant R cs p) where
         sent-bytes u n d = cc
 
         carried-pose : (m : Message) {x : Tile} {q : Option Entry} → PlaceAgrees x q → passes (carries m) q ≡ true
-            → (typeText (m .content) ≡ transformText) ⊎ (typeText (m .content) ≡ positionText)
+            → IsPose (typeText (m .content))
         carried-pose m (vacant u g) f = absurd (false≢true f)
         carried-pose m (taken {e} u k g a) f =
             let y : e .typeText ≡ typeText (m .content) = same-eq _ _ (and-split (same (e .typeText) (typeText (m .content))) _ f .0) in
@@ -244,7 +240,7 @@ module _ (R : Reader) (cs : List Call) (p : Panel) (G : Invariant R cs p) where
     message-good bs z =
         let y = zero-else (clockFault (b .clock) t) _ z in
         let v = zero-else (cond (b .up) 0 14) _ (y .1) in
-        let h : b .clock ≤ t = clock-passed t (y .0) in
+        let h : b .clock ≤ t = clock-passed (b .clock) t (y .0) in
         let m = one-of (R .read s) bs (R .reads s bs) (v .1) in
         let e = book-next sent z in
         let size : length (map hearing (p .tiles)) ≡ 16 = length-map (p .tiles) hearing ∙ G .agrees .size in
@@ -262,8 +258,8 @@ module _ (R : Reader) (cs : List Call) (p : Panel) (G : Invariant R cs p) where
 
   accepted-good : (c : Call) → OfBytes c → numberOn R b c ≡ 0 → Invariant R (longer R cs c) (changedBy p c)
   accepted-good (add t n h) o z = add-good t n h z
-  accepted-good (linkUp t) o z = link-good (linkUp t) true t refl (record { link = tt; accepted = z }) (clock-passed t z) (book-next (linkUp t) z)
-  accepted-good (linkDown t) o z = link-good (linkDown t) false t refl (record { link = tt; accepted = z }) (clock-passed t z) (book-next (linkDown t) z)
+  accepted-good (linkUp t) o z = link-good (linkUp t) true t refl (record { link = tt; accepted = z }) (clock-passed (b .clock) t z) (book-next (linkUp t) z)
+  accepted-good (linkDown t) o z = link-good (linkDown t) false t refl (record { link = tt; accepted = z }) (clock-passed (b .clock) t z) (book-next (linkDown t) z)
   accepted-good (message t s) o z = message-good t s o z
   accepted-good (look i now) o z = quiet (look i now) (book-next (look i now) z) (no-count R b (look i now) refl) (λ l. l .link)
 

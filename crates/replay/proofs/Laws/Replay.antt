@@ -15,7 +15,6 @@ use Rattle.fields.proofs.Laws.Walks.{walk-step}
 use Rattle.history.specs.Calls.{Call, add, linkUp, linkDown, message, look, OfBytes, refused, accepted}
 use Rattle.history.specs.Reading.{Reader}
 use Rattle.history.specs.History.{callAt, IsColoured, Answers}
-use Rattle.history.proofs.Laws.Readings.{readers}
 use Rattle.panel.specs.declared.Panel.{Panel}
 use Rattle.panel.specs.declared.AddResult.{AddResult}
 use Rattle.panel.specs.declared.AddAnswer.{AddAnswer}
@@ -123,7 +122,7 @@ module _ (cs : List Call) (bytes : Each OfBytes cs) where
   performed-padded (linkUp t) = value-padded [] (omega arith)
   performed-padded (linkDown t) = value-padded [] (omega arith)
   performed-padded (message t s) = value-padded [] (omega arith)
-  performed-padded (look i now) = demand-3 .claim (readers .some) cs bytes .padded i now
+  performed-padded (look i now) = demand-3 .claim (demand-3 .readers .some) cs bytes .padded i now
 
   performed-blank : (c : Call) → (IsColoured (answerTo (panelAfter cs) c) → ⊥) → performed (panelAfter cs) c .answered .value .len ≡ 0
   unfolding performed
