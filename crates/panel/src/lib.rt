@@ -7,9 +7,12 @@ ghost use mathlib.Core.List.{map};
 ghost use Prim.Native.Nat.{_-_};
 ghost use Rattle.fields.specs.Bytes.{same};
 ghost use Rattle.fields.specs.Lists.{any};
+ghost use Rattle.history.specs.Calls.{add, linkUp, linkDown, message, look};
 ghost use Rattle.history.specs.Summary.{isPose, isTileName, isHoldTime, isAllowed};
 ghost use Rattle.panel.specs.Tiles.{valueOf, noValue, labelOf, freeTile, newTile, isTile, relinked, heardBy, shownBy, freeIn};
 ghost use Rattle.panel.specs.Calls.{freshPanel, refusedAdd, refusedCall, refusedLook, lookedAt, addOf, linkOf, messageOf, lookOf};
+ghost use Rattle.panel.specs.Answers.{addAnswer, callAnswer, lookAnswer};
+ghost use Rattle.panel.specs.Demand3.{answerTo};
 
 // A message's content: its bytes, zeros after them, and how many they are.
 pub struct Value {
@@ -381,6 +384,7 @@ fn is_allowed(type_text: &[u8], name: &[u8], hold_time: u64) -> bool
     is_hold_time(hold_time)
 }
 
+// Each call promises its result, and its answer in document 01's words, which is what demand 3 speaks of.
 impl Panel {
     // No tiles, link down, clock 0.
     pub fn new() -> Panel
@@ -399,7 +403,8 @@ impl Panel {
 
     // A new tile. Checks 16, 17, 18.
     pub fn add(self, type_text: &[u8], name: &[u8], hold_time: u64) -> AddResult
-        ensures { λ r. ⌜ r ≡ addOf self (now («type_text» .entry)) (now (name .entry)) «hold_time» ⌝ }
+        ensures equal { λ r. ⌜ r ≡ addOf self (now («type_text» .entry)) (now (name .entry)) «hold_time» ⌝ }
+        ensures words { λ r. ⌜ addAnswer (r .answer) ≡ answerTo self (add (now («type_text» .entry)) (now (name .entry)) «hold_time») ⌝ }
     {
         if !is_allowed(type_text, name, hold_time) {
             return refused_add(self, 16);
@@ -444,21 +449,24 @@ impl Panel {
 
     // The link is up, and new even where it was up. Check 15.
     pub fn link_up(self, clock: u64) -> CallResult
-        ensures { λ r. ⌜ r ≡ linkOf true self clock ⌝ }
+        ensures equal { λ r. ⌜ r ≡ linkOf true self clock ⌝ }
+        ensures words { λ r. ⌜ callAnswer (r .number) ≡ answerTo self (linkUp clock) ⌝ }
     {
         self.set_link(true, clock)
     }
 
     // The link is down. Check 15.
     pub fn link_down(self, clock: u64) -> CallResult
-        ensures { λ r. ⌜ r ≡ linkOf false self clock ⌝ }
+        ensures equal { λ r. ⌜ r ≡ linkOf false self clock ⌝ }
+        ensures words { λ r. ⌜ callAnswer (r .number) ≡ answerTo self (linkDown clock) ⌝ }
     {
         self.set_link(false, clock)
     }
 
     // The bytes of one message. Checks 15, 14, the reader's number, 12, 13.
     pub fn message(self, clock: u64, bytes: &[u8]) -> CallResult
-        ensures { λ r. ⌜ r ≡ messageOf self clock (now (bytes .entry)) ⌝ }
+        ensures equal { λ r. ⌜ r ≡ messageOf self clock (now (bytes .entry)) ⌝ }
+        ensures words { λ r. ⌜ callAnswer (r .number) ≡ answerTo self (message clock (now (bytes .entry))) ⌝ }
     {
         if clock < self.link.clock {
             return refused_call(self, 15);
@@ -497,7 +505,8 @@ impl Panel {
 
     // What a tile shows. Checks 19, 15.
     pub fn look(self, tile: usize, clock: u64) -> LookResult
-        ensures { λ r. ⌜ r ≡ lookOf self tile clock ⌝ }
+        ensures equal { λ r. ⌜ r ≡ lookOf self tile clock ⌝ }
+        ensures words { λ r. ⌜ lookAnswer (r .answer) (r .value) ≡ answerTo self (look tile clock) ⌝ }
     {
         if 16 <= tile {
             return refused_look(self, 19);

@@ -2,7 +2,7 @@
 use mathlib.Core.Path.{sym, _∙_}
 use borrow.Author.Tests.{not-true, not-false}
 use borrow.Author.Needs.{needs}
-use Rattle.panel.proofs.Laws.Calls.{add-barred, add-taken, add-full, add-done}
+use Rattle.panel.proofs.Laws.Calls.{add-words, add-barred, add-taken, add-full, add-done}
 use Rattle.panel.proofs.Panel.add.Statement.{statement}
 use Rattle.panel.proofs.Panel.add.Tie as tie
 
@@ -16,8 +16,10 @@ returns : tie.Need-returns
 returns c =
     let a = c .before .before .before .before .before .args in
     let k = c .before .before .is-allowed in
+    let e =
     c .refused-add .ensures
-    ∙ add-barred (a .self) (a .type-text .now) (a .name .now) (a .hold-time) (sym (k .ensures) ∙ not-true (k .result) (c .before .if1 .taken))
+    ∙ add-barred (a .self) (a .type-text .now) (a .name .now) (a .hold-time) (sym (k .ensures) ∙ not-true (k .result) (c .before .if1 .taken)) in
+    add-words _ _ _ _ e
 
 label-of-requires : tie.Need-label-of-requires
 label-of-requires c κs = search needs
@@ -33,10 +35,12 @@ returns-2 c =
     let d = c .before .before .before .before in
     let a = d .before .before .before .before .before .args in
     let k = d .before .before .is-allowed in
+    let e =
     c .refused-add2 .ensures
     ∙ add-taken (a .self) (a .type-text .now) (a .name .now) (a .hold-time)
     (sym (k .ensures) ∙ not-false (k .result) (d .before .if1 .left)) _ (d .label-of .ensures)
-    (sym (c .before .before .has .ensures) ∙ c .before .if2 .taken)
+    (sym (c .before .before .has .ensures) ∙ c .before .if2 .taken) in
+    add-words _ _ _ _ e
 
 free-place-requires : tie.Need-free-place-requires
 free-place-requires c κs = search needs
@@ -50,10 +54,12 @@ returns-3 c =
     let a = d .before .before .before .before .before .args in
     let k = d .before .before .is-allowed in
     let new = sym (c .before .before .before .before .has .ensures) ∙ c .before .before .before .if2 .left in
+    let e =
     c .refused-add3 .ensures
     ∙ add-full (a .self) (a .type-text .now) (a .name .now) (a .hold-time)
     (sym (k .ensures) ∙ not-false (k .result) (d .before .if1 .left)) _ (d .label-of .ensures)
-    new _ (c .before .before .free-place .ensures) (c .before .if3 .taken)
+    new _ (c .before .before .free-place .ensures) (c .before .if3 .taken) in
+    add-words _ _ _ _ e
 
 new-tile-requires : tie.Need-new-tile-requires
 new-tile-requires c κs = search needs
@@ -69,10 +75,12 @@ returns-4 c =
     let d = c .before .before .before .before .before .before in
     let a = d .before .before .before .before .before .args in
     let k = d .before .before .is-allowed in
+    let e =
     add-done (a .self) (a .type-text .now) (a .name .now) (a .hold-time)
     (sym (k .ensures) ∙ not-false (k .result) (d .before .if1 .left)) _ (d .label-of .ensures)
     (sym (c .before .before .before .before .has .ensures) ∙ c .before .before .before .if2 .left) _ (c .before .before .free-place .ensures)
-    (c .before .if3 .left) _ (c .new-tile .ensures)
+    (c .before .if3 .left) _ (c .new-tile .ensures) in
+    add-words _ _ _ _ e
 
 pub add-spec : {M : Type 1} → statement M
 add-spec =

@@ -4,7 +4,7 @@ use lib.ListN.{getD}
 use borrow.Author.Tests.{not-true, not-false}
 use borrow.Author.Needs.{needs}
 use Rattle.panel.specs.Tiles.{noTile}
-use Rattle.panel.proofs.Laws.Calls.{look-past, look-free, look-late, look-done}
+use Rattle.panel.proofs.Laws.Calls.{look-words, look-past, look-free, look-late, look-done}
 use Rattle.panel.proofs.Panel.look.Statement.{statement}
 use Rattle.panel.proofs.Panel.look.Tie as tie
 
@@ -12,7 +12,9 @@ refused-look-requires : tie.Need-refused-look-requires
 refused-look-requires c κs = search needs
 
 returns : tie.Need-returns
-returns c = c .refused-look .ensures ∙ look-past _ _ _ (c .before .if1 .taken)
+returns c =
+    let e = c .refused-look .ensures ∙ look-past _ _ _ (c .before .if1 .taken) in
+    look-words _ _ _ e
 
 mul-t : tie.Need-mul-t
 mul-t c = search needs
@@ -27,7 +29,9 @@ returns-2 : tie.Need-returns-2
 returns-2 c =
     let a = c .before .before .before .before .before .args in
     let e = not-true (getD (a .t1 .tiles) (a .tile) noTile .used) (c .before .if2 .taken) in
-    c .refused-look2 .ensures ∙ look-free (a .t1) (a .tile) (a .clock) (c .before .before .before .before .if1 .left) e
+    let e =
+    c .refused-look2 .ensures ∙ look-free (a .t1) (a .tile) (a .clock) (c .before .before .before .before .if1 .left) e in
+    look-words _ _ _ e
 
 refused-look-requires-3 : tie.Need-refused-look-requires-3
 refused-look-requires-3 c κs = search needs
@@ -36,7 +40,9 @@ returns-3 : tie.Need-returns-3
 returns-3 c =
     let a = c .before .before .before .before .before .before .args in
     let e = not-false (getD (a .t1 .tiles) (a .tile) noTile .used) (c .before .before .if2 .left) in
-    c .refused-look3 .ensures ∙ look-late (a .t1) (a .tile) (a .clock) (c .before .before .before .before .before .if1 .left) e (c .before .if3 .taken)
+    let e =
+    c .refused-look3 .ensures ∙ look-late (a .t1) (a .tile) (a .clock) (c .before .before .before .before .before .if1 .left) e (c .before .if3 .taken) in
+    look-words _ _ _ e
 
 look-at-requires : tie.Need-look-at-requires
 look-at-requires c κs = search needs
@@ -45,7 +51,9 @@ returns-4 : tie.Need-returns-4
 returns-4 c =
     let a = c .before .before .before .before .before .before .args in
     let e = not-false (getD (a .t1 .tiles) (a .tile) noTile .used) (c .before .before .if2 .left) in
-    c .look-at .ensures ∙ look-done (a .t1) (a .tile) (a .clock) (c .before .before .before .before .before .if1 .left) e (c .before .if3 .left)
+    let e =
+    c .look-at .ensures ∙ look-done (a .t1) (a .tile) (a .clock) (c .before .before .before .before .before .if1 .left) e (c .before .if3 .left) in
+    look-words _ _ _ e
 
 pub look-spec : {M : Type 1} → statement M
 look-spec =

@@ -3,7 +3,7 @@ use mathlib.Core.Path.{sym, ap, ap₂, _∙_}
 use borrow.Author.Tests.{not-true, not-false}
 use borrow.Author.Needs.{needs}
 use Rattle.panel.specs.Tiles.{labelOf, valueOf}
-use Rattle.panel.proofs.Laws.Calls.{message-late, message-down, message-unread, message-left-over, message-unknown, message-done}
+use Rattle.panel.proofs.Laws.Calls.{message-words, message-late, message-down, message-unread, message-left-over, message-unknown, message-done}
 use Rattle.panel.proofs.Panel.message.Statement.{statement}
 use Rattle.panel.proofs.Panel.message.Tie as tie
 
@@ -13,7 +13,9 @@ refused-call-requires c κs = search needs
 returns : tie.Need-returns
 returns c =
     let a = c .before .before .before .before .args in
-    c .refused-call .ensures ∙ message-late (a .self) (a .clock) (a .bytes .now) (c .before .if1 .taken)
+    let e =
+    c .refused-call .ensures ∙ message-late (a .self) (a .clock) (a .bytes .now) (c .before .if1 .taken) in
+    message-words _ _ _ e
 
 refused-call-requires-2 : tie.Need-refused-call-requires-2
 refused-call-requires-2 c κs = search needs
@@ -21,8 +23,10 @@ refused-call-requires-2 c κs = search needs
 returns-2 : tie.Need-returns-2
 returns-2 c =
     let a = c .before .before .before .before .before .before .args in
+    let e =
     c .refused-call2 .ensures
-    ∙ message-down (a .self) (a .clock) (a .bytes .now) (c .before .before .before .if1 .left) (not-true (a .self .link .up) (c .before .if2 .taken))
+    ∙ message-down (a .self) (a .clock) (a .bytes .now) (c .before .before .before .if1 .left) (not-true (a .self .link .up) (c .before .if2 .taken)) in
+    message-words _ _ _ e
 
 read-requires : tie.Need-read-requires
 read-requires c κs = search needs
@@ -34,10 +38,12 @@ returns-3 : tie.Need-returns-3
 returns-3 c =
     let d = c .before .before .before in
     let a = d .before .before .before .before .before .before .args in
+    let e =
     c .refused-call3 .ensures
     ∙ message-unread (a .self) (a .clock) (a .bytes .now)
     (d .before .before .before .if1 .left) (not-false (a .self .link .up) (d .before .if2 .left)) _ (d .read .ensures)
-    (c .before .if3 .taken)
+    (c .before .if3 .taken) in
+    message-words _ _ _ e
 
 refused-call-requires-4 : tie.Need-refused-call-requires-4
 refused-call-requires-4 c κs = search needs
@@ -46,10 +52,12 @@ returns-4 : tie.Need-returns-4
 returns-4 c =
     let d = c .before .before .before .before .before in
     let a = d .before .before .before .before .before .before .args in
+    let e =
     c .refused-call4 .ensures
     ∙ message-left-over (a .self) (a .clock) (a .bytes .now)
     (d .before .before .before .if1 .left) (not-false (a .self .link .up) (d .before .if2 .left)) _ (d .read .ensures)
-    (c .before .before .before .if3 .left) (c .before .if4 .taken)
+    (c .before .before .before .if3 .left) (c .before .if4 .taken) in
+    message-words _ _ _ e
 
 type-text-requires : tie.Need-type-text-requires
 type-text-requires c κs = search needs
@@ -72,12 +80,14 @@ returns-5 c =
     let l = c .before .before .before .before in
     let d = l .before .before .before .before .before .before .before in
     let a = d .before .before .before .before .before .before .args in
+    let e =
     c .refused-call5 .ensures
     ∙ message-unknown (a .self) (a .clock) (a .bytes .now)
     (d .before .before .before .if1 .left) (not-false (a .self .link .up) (d .before .if2 .left)) (d .read .result) (d .read .ensures)
     (l .before .before .before .before .before .if3 .left) (l .before .before .before .if4 .left)
     _ (l .label-of .ensures ∙ ap₂ labelOf (l .before .before .type-text .ensures) (l .before .device-name .ensures))
-    (sym (h .ensures) ∙ not-true (h .result) (c .before .if5 .taken))
+    (sym (h .ensures) ∙ not-true (h .result) (c .before .if5 .taken)) in
+    message-words _ _ _ e
 
 content-requires : tie.Need-content-requires
 content-requires c κs = search needs
@@ -94,12 +104,14 @@ returns-6 c =
     let l = c .before .before .before .before .before .before in
     let d = l .before .before .before .before .before .before .before in
     let a = d .before .before .before .before .before .before .args in
+    let e =
     message-done (a .self) (a .clock) (a .bytes .now)
     (d .before .before .before .if1 .left) (not-false (a .self .link .up) (d .before .if2 .left)) (d .read .result) (d .read .ensures)
     (l .before .before .before .before .before .if3 .left) (l .before .before .before .if4 .left)
     _ (l .label-of .ensures ∙ ap₂ labelOf (l .before .before .type-text .ensures) (l .before .device-name .ensures))
     (sym (h .ensures) ∙ not-false (h .result) (c .before .before .before .if5 .left))
-    _ (c .before .value-of .ensures ∙ ap valueOf (c .before .before .content .ensures)) _ (c .hear-all .ensures)
+    _ (c .before .value-of .ensures ∙ ap valueOf (c .before .before .content .ensures)) _ (c .hear-all .ensures) in
+    message-words _ _ _ e
 
 pub message-spec : {M : Type 1} → statement M
 message-spec =
