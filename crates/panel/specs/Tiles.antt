@@ -35,7 +35,7 @@ freeTile =
       value = noValue;
     }
 
--- what is read past the table's end
+-- what is read past the table's end: no tile, and no bytes of a label or a value either
 abbrev pub noTile : Tile
 noTile =
     record {

@@ -491,6 +491,7 @@ impl Panel {
         }
         let value = value_of(message::content(bytes, read));
         let changed = hear_all(tiles, label, clock, value);
+        // The link stays up: a message on a link that is down was refused.
         CallResult {
             panel: Panel {
                 tiles: changed,
