@@ -76,7 +76,7 @@ module _ (R : Reader) where
     pub clock : ℕ
     pub message : Message
     pub counted : Counted cs i place clock message
-    pub unlinked : NoLinkAfter cs place
+    pub no-link : NoLinkAfter cs place
     pub no-older : now - clock ≤ holdTimeOf (tileAt (summaryOf R cs) i)
 
   -- no message counted for the tile

@@ -84,26 +84,26 @@ module _ (R : Reader) where
         let e : k ≡ length cs = omega (arith, longer-length, d .within, ltb-false k (length cs) q) in
         inr (e, new-place (λ b x. CountsFor R b x i t m) k e .0 (d .counts-for)))
 
-    pub unlinked-more : (k : ℕ) → (LinkCall R (summaryOf R cs) c → ⊥) → NoLinkAfter R cs k → NoLinkAfter R longer k
-    unlinked-more k n u j kj jl h =
+    pub no-link-more : (k : ℕ) → (LinkCall R (summaryOf R cs) c → ⊥) → NoLinkAfter R cs k → NoLinkAfter R longer k
+    no-link-more k n u j kj jl h =
         by-test (ltb j (length cs))
         (λ q. let l : j < length cs = ltb-true _ _ q in u j kj l (old-place (LinkCall R) j l .0 h))
         (λ q.
         let e : j ≡ length cs = omega (arith, longer-length, jl, ltb-false j (length cs) q) in
         n (new-place (LinkCall R) j e .0 h))
 
-    pub unlinked-less : (k : ℕ) → NoLinkAfter R longer k → NoLinkAfter R cs k
-    unlinked-less k u j kj jl h = u j kj (omega (arith, longer-length, jl)) (old-place (LinkCall R) j jl .1 h)
+    pub no-link-less : (k : ℕ) → NoLinkAfter R longer k → NoLinkAfter R cs k
+    no-link-less k u j kj jl h = u j kj (omega (arith, longer-length, jl)) (old-place (LinkCall R) j jl .1 h)
 
-    pub unlinked-now : NoLinkAfter R longer (length cs)
-    unlinked-now j kj jl h = omega (arith, longer-length, kj, jl)
+    pub no-link-now : NoLinkAfter R longer (length cs)
+    no-link-now j kj jl h = omega (arith, longer-length, kj, jl)
 
-    pub linked-now : (k : ℕ) → k < length cs → LinkCall R (summaryOf R cs) c → NoLinkAfter R longer k → ⊥
-    linked-now k h l u = u (length cs) h (omega (arith, longer-length)) (new-place (LinkCall R) (length cs) refl .1 l)
+    pub link-now : (k : ℕ) → k < length cs → LinkCall R (summaryOf R cs) c → NoLinkAfter R longer k → ⊥
+    link-now k h l u = u (length cs) h (omega (arith, longer-length)) (new-place (LinkCall R) (length cs) refl .1 l)
 
     -- where the call does not count for the tile, what counted is what counted before
-    pub silent-still : (i : ℕ) → ((t : ℕ) (m : Message) → CountsFor R (summaryOf R cs) c i t m → ⊥) → NoneCounted R cs i → NoneCounted R longer i
-    silent-still i n q k t m d = ⊎-elim (q k t m) (λ w. n t m (w .1)) (counted-cases i k t m d)
+    pub none-still : (i : ℕ) → ((t : ℕ) (m : Message) → CountsFor R (summaryOf R cs) c i t m → ⊥) → NoneCounted R cs i → NoneCounted R longer i
+    none-still i n q k t m d = ⊎-elim (q k t m) (λ w. n t m (w .1)) (counted-cases i k t m d)
 
     pub last-still : (i k last : ℕ) → ((t : ℕ) (m : Message) → CountsFor R (summaryOf R cs) c i t m → ⊥)
         → ((j t : ℕ) (n : Message) → Counted R cs i j t n → (j ≤ k) × (t ≤ last))

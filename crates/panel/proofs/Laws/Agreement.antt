@@ -32,7 +32,7 @@ pub record Agrees (p : Panel) (b : Summary) : Type 0 where
   pub size : length (p .tiles) ≡ 16
   pub places : (i : ℕ) → PlaceAgrees (getD (p .tiles) i noTile) (tileAt b i)
 
--- ---- what the two of one seat agree on
+-- ---- what a place and the book agree on
 
 pub place-used : {x : Tile} {o : Option Entry} → PlaceAgrees x o → x .used ≡ isThere o
 place-used (vacant u h) = u

@@ -12,7 +12,7 @@ use Rattle.fields.specs.Checks.{orElse}
 use Rattle.fields.proofs.Laws.Checks.{else-first, else-second}
 use Rattle.message.specs.declared.Answer.{Answer}
 use Rattle.message.specs.Check.{readOf}
-use Rattle.history.specs.Calls.{add, linkUp, linkDown, message, look}
+use Rattle.history.specs.Calls as words
 use Rattle.history.specs.Summary.{isAllowed, allowedFault, clockFault}
 use Rattle.panel.specs.declared.Value.{Value}
 use Rattle.panel.specs.declared.Label.{Label}
@@ -25,7 +25,6 @@ use Rattle.panel.specs.declared.LookResult.{LookResult}
 use Rattle.panel.specs.Tiles.{labelOf, noTile, newTile, isTile, relinked, heardBy, freeIn}
 use Rattle.panel.specs.Calls.{refusedAdd, refusedCall, refusedLook, addFault, entered, addOf, linked, linkOf, labelIn, valueIn, heardFault, messageFault, received, messageOf, lookFault, lookedAt, lookOf}
 use Rattle.panel.specs.Answers.{addAnswer, callAnswer, lookAnswer}
-use Rattle.panel.specs.Demand3.{answerTo}
 
 -- ---- a call is refused with the number of its fault, or does what it is there for
 
@@ -234,20 +233,14 @@ module _ (p : Panel) (i now : ℕ) where
 
 -- ---- a result, and its answer in document 01's words
 
-pub add-words : (p : Panel) (t n : List ℕ) (h : ℕ) {r : AddResult} → r ≡ addOf p t n h
-    → (r ≡ addOf p t n h) × (addAnswer (r .answer) ≡ answerTo p (add t n h))
-add-words p t n h e = (e, ap (λ (r : AddResult). addAnswer (r .answer)) e)
+abbrev pub addWords : AddResult → words.Answer
+addWords r = addAnswer (r .answer)
 
-pub up-words : (p : Panel) (t : ℕ) {r : CallResult} → r ≡ linkOf true p t → (r ≡ linkOf true p t) × (callAnswer (r .number) ≡ answerTo p (linkUp t))
-up-words p t e = (e, ap (λ (r : CallResult). callAnswer (r .number)) e)
+abbrev pub callWords : CallResult → words.Answer
+callWords r = callAnswer (r .number)
 
-pub down-words : (p : Panel) (t : ℕ) {r : CallResult} → r ≡ linkOf false p t → (r ≡ linkOf false p t) × (callAnswer (r .number) ≡ answerTo p (linkDown t))
-down-words p t e = (e, ap (λ (r : CallResult). callAnswer (r .number)) e)
+abbrev pub lookWords : LookResult → words.Answer
+lookWords r = lookAnswer (r .answer) (r .value)
 
-pub message-words : (p : Panel) (t : ℕ) (s : List ℕ) {r : CallResult} → r ≡ messageOf p t s
-    → (r ≡ messageOf p t s) × (callAnswer (r .number) ≡ answerTo p (message t s))
-message-words p t s e = (e, ap (λ (r : CallResult). callAnswer (r .number)) e)
-
-pub look-words : (p : Panel) (i now : ℕ) {r : LookResult} → r ≡ lookOf p i now
-    → (r ≡ lookOf p i now) × (lookAnswer (r .answer) (r .value) ≡ answerTo p (look i now))
-look-words p i now e = (e, ap (λ (r : LookResult). lookAnswer (r .answer) (r .value)) e)
+pub in-words : {A : Type 0} (f : A → words.Answer) {q r : A} → r ≡ q → (r ≡ q) × (f r ≡ f q)
+in-words f e = (e, ap f e)

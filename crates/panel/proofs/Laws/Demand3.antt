@@ -6,7 +6,7 @@ use mathlib.Core.Bool.{Bool, true, false, cond, _&&_, false≢true}
 use mathlib.Core.List.{List, [], _∷_, _++_, append-nil, append-assoc, foldl-append}
 use native.Mathlib.Omega.{arith}
 use lib.Dec.{eqb, leb}
-use lib.ListN.{take, getD, replicate}
+use lib.ListN.{take, getD}
 use borrow.Author.Tests.{leb-true, leb-false}
 use Rattle.fields.specs.Lists.{Each}
 use Rattle.fields.proofs.Laws.Lists.{each-take}
@@ -21,7 +21,7 @@ use Rattle.panel.specs.declared.Tile.{Tile}
 use Rattle.panel.specs.declared.Panel.{Panel}
 use Rattle.panel.specs.declared.LookResult.{LookResult}
 use Rattle.panel.specs.declared.LookAnswer.the-variants.{Empty, Green, Grey}
-use Rattle.panel.specs.Tiles.{noValue, freeTile, noTile}
+use Rattle.panel.specs.Tiles.{noValue, noTile}
 use Rattle.panel.specs.Calls.{freshPanel, lookFault, lookedAt, refusedLook, lookOf}
 use Rattle.panel.specs.Answers.{lookAnswer}
 use Rattle.panel.specs.Demand3.{answerTo, panelNext, panelAfter, Demand3}
@@ -30,41 +30,36 @@ use Rattle.history.proofs.Laws.Readings.{readers}
 use Rattle.panel.proofs.Laws.Contents.{bytesOf, PaddedValue, value-bytes, value-padded}
 use Rattle.panel.proofs.Laws.Calls.{look-refused, look-accepted}
 use Rattle.panel.proofs.Laws.Faults.{faultOn, acceptedBy, answer-refused, answer-accepted, refused-kept, panel-looked}
-use Rattle.panel.proofs.Laws.Agreement.{fresh-agrees, place-hold}
-use Rattle.panel.proofs.Laws.History.{Kept, silent, heard}
+use Rattle.panel.proofs.Laws.Agreement.{fresh-agrees, place-used, place-heard, place-hold}
+use Rattle.panel.proofs.Laws.History.{Kept, uncounted, heard}
 use Rattle.panel.proofs.Laws.Checked.{clock-passed, next-free, fault-same}
 use Rattle.panel.proofs.Laws.Step.{Invariant, step}
 
 -- ---- what is known after any sequence of calls
 
-heard-fresh : (n i : ℕ) → getD (replicate n freeTile) i noTile .heard ≡ false
-heard-fresh zero i = refl
-heard-fresh (suc n) zero = refl
-heard-fresh (suc n) (suc i) = heard-fresh n i
-
-fresh-good : (R : Reader) → Invariant R [] (panelAfter [])
+fresh-invariant : (R : Reader) → Invariant R [] (panelAfter [])
 unfolding summaryOf panelAfter
-fresh-good R =
+fresh-invariant R =
     record {
       agrees = fresh-agrees;
       known = λ i k t m d. absurd (omega (arith, d .within));
-      kept = λ i. silent (heard-fresh 16 i) (λ k t m d. omega (arith, d .within));
+      kept = λ i. uncounted (place-heard (fresh-agrees .places i) (place-used (fresh-agrees .places i))) (λ k t m d. omega (arith, d .within));
     }
 
 panel-more : (cs : List Call) (c : Call) → panelAfter (cs ++ (c ∷ [])) ≡ panelNext (panelAfter cs) c
 unfolding panelAfter
 panel-more cs c = foldl-append panelNext freshPanel cs (c ∷ [])
 
-good-from : (R : Reader) (done todo : List Call) → Each OfBytes todo → Invariant R done (panelAfter done)
+invariant-from : (R : Reader) (done todo : List Call) → Each OfBytes todo → Invariant R done (panelAfter done)
     → Invariant R (done ++ todo) (panelAfter (done ++ todo))
-good-from R done [] o G = subst (λ (l : List Call). Invariant R l (panelAfter l)) (sym (append-nil done)) G
-good-from R done (c ∷ todo) o G =
+invariant-from R done [] o G = subst (λ (l : List Call). Invariant R l (panelAfter l)) (sym (append-nil done)) G
+invariant-from R done (c ∷ todo) o G =
     subst (λ (l : List Call). Invariant R l (panelAfter l)) (append-assoc done (c ∷ []) todo)
-    (good-from R (done ++ (c ∷ [])) todo (o .1)
+    (invariant-from R (done ++ (c ∷ [])) todo (o .1)
     (subst (Invariant R (done ++ (c ∷ []))) (sym (panel-more done c)) (step R done (panelAfter done) G c (o .0))))
 
-good : (R : Reader) (cs : List Call) → Each OfBytes cs → Invariant R cs (panelAfter cs)
-good R cs o = good-from R [] cs o (fresh-good R)
+invariant : (R : Reader) (cs : List Call) → Each OfBytes cs → Invariant R cs (panelAfter cs)
+invariant R cs o = invariant-from R [] cs o (fresh-invariant R)
 
 -- ---- what a tile shows
 
@@ -91,20 +86,20 @@ module _ (R : Reader) (cs : List Call) (i now : ℕ) where
     at-last : Current R cs i now → NoLinkAfter R cs k × (now - t ≤ hold)
     at-last g =
         let w = o (g .place) (g .clock) (g .message) (g .counted) in
-        ((λ j kj. g .unlinked j (omega (arith, w .0))), omega (arith, w .1, g .no-older, same-hold))
+        ((λ j kj. g .no-link j (omega (arith, w .0))), omega (arith, w .1, g .no-older, same-hold))
 
-    not-silent : NoneCounted R cs i → ⊥
-    not-silent q = q k t m d
+    some-counted : NoneCounted R cs i → ⊥
+    some-counted q = q k t m d
 
     last-is : Last R cs i k t m
     last-is = record { counted = d; last = λ j u n e. o j u n e .0 }
 
     green-shown : NoLinkAfter R cs k → now - t ≤ hold → Shown R cs i now (green (now - t) (valueFor m))
     green-shown u h =
-        let g : Current R cs i now = record { place = k; clock = t; message = m; counted = d; unlinked = u; no-older = omega (arith, h, same-hold) } in
+        let g : Current R cs i now = record { place = k; clock = t; message = m; counted = d; no-link = u; no-older = omega (arith, h, same-hold) } in
         record {
           is-green = ((λ y. g), (λ y. (now - t, valueFor m, refl)));
-          is-empty = ((λ y. absurd (no-answer y)), (λ q. absurd (not-silent q)));
+          is-empty = ((λ y. absurd (no-answer y)), (λ q. absurd (some-counted q)));
           is-grey = ((λ y. absurd (no-grey (y .0) (y .1) (y .2))), (λ y. absurd (y .1 g)));
           of-last = inr (record { place = k; clock = t; message = m; last = last-is; not-later = late; shown = inl refl });
         }
@@ -119,8 +114,8 @@ module _ (R : Reader) (cs : List Call) (i now : ℕ) where
     grey-shown n =
         record {
           is-green = ((λ y. absurd (no-green (y .0) (y .1) (y .2))), (λ y. absurd (n y)));
-          is-empty = ((λ y. absurd (no-answer y)), (λ q. absurd (not-silent q)));
-          is-grey = ((λ y. (not-silent, n)), (λ y. (now - t, valueFor m, refl)));
+          is-empty = ((λ y. absurd (no-answer y)), (λ q. absurd (some-counted q)));
+          is-grey = ((λ y. (some-counted, n)), (λ y. (now - t, valueFor m, refl)));
           of-last = inr (record { place = k; clock = t; message = m; last = last-is; not-later = late; shown = inr refl });
         }
       where
@@ -130,8 +125,8 @@ module _ (R : Reader) (cs : List Call) (i now : ℕ) where
         no-answer : grey (now - t) (valueFor m) ≡ empty → ⊥
         no-answer y = false≢true (ap isEmpty y)
 
-  silent-shown : NoneCounted R cs i → Shown R cs i now empty
-  silent-shown q =
+  empty-shown : NoneCounted R cs i → Shown R cs i now empty
+  empty-shown q =
       record {
         is-green = ((λ y. absurd (no-green (y .0) (y .1) (y .2))), (λ g. absurd (q (g .place) (g .clock) (g .message) (g .counted))));
         is-empty = ((λ y. q), (λ y. refl));
@@ -147,7 +142,7 @@ module _ (R : Reader) (cs : List Call) (i now : ℕ) where
 
   module _ (p : Panel) (x : Tile) (same-hold : x .«hold_time» ≡ holdTimeOf (tileAt (summaryOf R cs) i))
       (in-time : (k t : ℕ) (m : Message) → Counted R cs i k t m → t ≤ now) where
-    -- by whether a message was heard, came since the last link call, and is no older than the hold time
+    -- by whether a message was heard, came since the last accepted link call, and is no older than the hold time
     abbrev shownAs : Bool → Bool → Bool → Answer
     shownAs h s l = lookAnswer (cond h (cond (s && l) (Green (now - x .clock)) (Grey (now - x .clock))) Empty) (cond h (x .value) noValue)
 
@@ -160,19 +155,24 @@ module _ (R : Reader) (cs : List Call) (i now : ℕ) where
         ap (λ (y : Bool). shownAs y (x .«since_link») recent) e ∙ ap₂ (shownAs h) f g
 
     tile-shown : Kept R cs i x → Shown R cs i now (lookAnswer (lookedAt p x now .answer) (lookedAt p x now .value))
-    tile-shown (silent h q) = subst (Shown R cs i now) (sym (shown-as false (x .«since_link») recent h refl refl)) (silent-shown q)
+    tile-shown (uncounted h q) = subst (Shown R cs i now) (sym (shown-as false (x .«since_link») recent h refl refl)) (empty-shown q)
     tile-shown (heard k m h d v f o u) =
         let e : bytesOf (x .value) ≡ valueFor m = ap bytesOf v ∙ value-bytes (valueFor m) f in
+        let late : x .clock ≤ now = in-time k (x .clock) m d in
+        let last = at-last k (x .clock) m (x .«hold_time») same-hold d late o in
+        let as-grey = grey-shown k (x .clock) m (x .«hold_time») same-hold d late o in
         ⊎-elim
         (λ w.
         by-test recent
-        (λ q. subst (Shown R cs i now) (sym (shown-as true true true h (w .0) q ∙ ap (green (now - x .clock)) e))
-        (green-shown k (x .clock) m (x .«hold_time») same-hold d (in-time k (x .clock) m d) o (w .1) (leb-true _ _ q)))
-        (λ q. subst (Shown R cs i now) (sym (shown-as true true false h (w .0) q ∙ ap (grey (now - x .clock)) e))
-        (grey-shown k (x .clock) m (x .«hold_time») same-hold d (in-time k (x .clock) m d) o
-        (λ g. omega (arith, leb-false (now - x .clock) (x .«hold_time») q, at-last k (x .clock) m (x .«hold_time») same-hold d (in-time k (x .clock) m d) o g .1)))))
-        (λ w. subst (Shown R cs i now) (sym (shown-as true false recent h (w .0) refl ∙ ap (grey (now - x .clock)) e))
-        (grey-shown k (x .clock) m (x .«hold_time») same-hold d (in-time k (x .clock) m d) o (λ g. w .1 (at-last k (x .clock) m (x .«hold_time») same-hold d (in-time k (x .clock) m d) o g .0))))
+        (λ q.
+        subst (Shown R cs i now) (sym (shown-as true true true h (w .0) q ∙ ap (green (now - x .clock)) e))
+        (green-shown k (x .clock) m (x .«hold_time») same-hold d late o (w .1) (leb-true _ _ q)))
+        (λ q.
+        subst (Shown R cs i now) (sym (shown-as true true false h (w .0) q ∙ ap (grey (now - x .clock)) e))
+        (as-grey (λ g. omega (arith, leb-false (now - x .clock) (x .«hold_time») q, last g .1)))))
+        (λ w.
+        subst (Shown R cs i now) (sym (shown-as true false recent h (w .0) refl ∙ ap (grey (now - x .clock)) e))
+        (as-grey (λ g. w .1 (last g .0))))
         u
 
 -- ---- what a call answers
@@ -204,7 +204,7 @@ module _ (R : Reader) (cs : List Call) (p : Panel) (G : Invariant R cs p) where
   -- ---- the value beside a look's answer
 
   tile-padded : (x : Tile) (i now : ℕ) → Kept R cs i x → PaddedValue (lookedAt p x now .value)
-  tile-padded x i now (silent h q) = subst PaddedValue (sym (ap (λ (t : Bool). cond t (x .value) noValue) h)) (value-padded [] (omega arith))
+  tile-padded x i now (uncounted h q) = subst PaddedValue (sym (ap (λ (t : Bool). cond t (x .value) noValue) h)) (value-padded [] (omega arith))
   tile-padded x i now (heard k m h d v f o u) =
       subst PaddedValue (sym (ap (λ (t : Bool). cond t (x .value) noValue) h ∙ v)) (value-padded (valueFor m) f)
 
@@ -247,9 +247,9 @@ demand-3 =
       readers = readers;
       claim = λ R cs o.
           record {
-            inside = λ k l. answers R (take k cs) (panelAfter (take k cs)) (good R (take k cs) (each-take OfBytes k cs o)) (callAt cs k) (each-at k cs o);
-            after = λ i now. answers R cs (panelAfter cs) (good R cs o) (look i now) tt;
-            padded = look-padded R cs (panelAfter cs) (good R cs o);
+            inside = λ k l. answers R (take k cs) (panelAfter (take k cs)) (invariant R (take k cs) (each-take OfBytes k cs o)) (callAt cs k) (each-at k cs o);
+            after = λ i now. answers R cs (panelAfter cs) (invariant R cs o) (look i now) tt;
+            padded = look-padded R cs (panelAfter cs) (invariant R cs o);
           };
       refused = refused-kept;
       looked = panel-looked;

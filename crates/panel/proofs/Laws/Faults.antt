@@ -13,10 +13,10 @@ use Rattle.panel.specs.declared.CallResult.{CallResult}
 use Rattle.panel.specs.declared.LookResult.{LookResult}
 use Rattle.panel.specs.Tiles.{labelOf, noTile, newTile, freeIn}
 use Rattle.panel.specs.Calls.{addFault, entered, linked, messageFault, received, lookFault, lookedAt}
-use Rattle.panel.specs.Answers.{addAnswer, callAnswer, lookAnswer}
+use Rattle.panel.specs.Answers.{callAnswer, lookAnswer}
 use Rattle.panel.specs.Demand3.{answerTo, panelNext}
 use Rattle.fields.proofs.Laws.Tests.{by-zero}
-use Rattle.panel.proofs.Laws.Calls.{add-refused, add-accepted, link-refused, link-accepted, message-refused, message-accepted, look-refused, look-accepted}
+use Rattle.panel.proofs.Laws.Calls.{addWords, callWords, lookWords, add-refused, add-accepted, link-refused, link-accepted, message-refused, message-accepted, look-refused, look-accepted}
 
 abbrev pub faultOn : Panel → Call → ℕ
 faultOn p (add t n h) = addFault p t n h
@@ -66,18 +66,18 @@ call-refused : (n : ℕ) → (n ≡ 0 → ⊥) → callAnswer n ≡ refused n
 call-refused n z = ap (λ (t : Bool). cond t accepted (refused n)) (ne-eqb n 0 z)
 
 pub answer-refused : (p : Panel) (c : Call) → (faultOn p c ≡ 0 → ⊥) → answerTo p c ≡ refused (faultOn p c)
-answer-refused p (add t n h) z = ap (λ (r : AddResult). addAnswer (r .answer)) (sym (add-refused p t n h _ refl z))
-answer-refused p (linkUp t) z = ap (λ (r : CallResult). callAnswer (r .number)) (sym (link-refused true p t _ refl z)) ∙ call-refused _ z
-answer-refused p (linkDown t) z = ap (λ (r : CallResult). callAnswer (r .number)) (sym (link-refused false p t _ refl z)) ∙ call-refused _ z
-answer-refused p (message t s) z = ap (λ (r : CallResult). callAnswer (r .number)) (sym (message-refused p t s _ refl z)) ∙ call-refused _ z
-answer-refused p (look i now) z = ap (λ (r : LookResult). lookAnswer (r .answer) (r .value)) (sym (look-refused p i now _ refl z))
+answer-refused p (add t n h) z = ap addWords (sym (add-refused p t n h _ refl z))
+answer-refused p (linkUp t) z = ap callWords (sym (link-refused true p t _ refl z)) ∙ call-refused _ z
+answer-refused p (linkDown t) z = ap callWords (sym (link-refused false p t _ refl z)) ∙ call-refused _ z
+answer-refused p (message t s) z = ap callWords (sym (message-refused p t s _ refl z)) ∙ call-refused _ z
+answer-refused p (look i now) z = ap lookWords (sym (look-refused p i now _ refl z))
 
 pub answer-accepted : (p : Panel) (c : Call) → faultOn p c ≡ 0 → answerTo p c ≡ acceptedBy p c
-answer-accepted p (add t n h) e = ap (λ (r : AddResult). addAnswer (r .answer)) (sym (add-accepted p t n h e))
-answer-accepted p (linkUp t) e = ap (λ (r : CallResult). callAnswer (r .number)) (sym (link-accepted true p t e))
-answer-accepted p (linkDown t) e = ap (λ (r : CallResult). callAnswer (r .number)) (sym (link-accepted false p t e))
-answer-accepted p (message t s) e = ap (λ (r : CallResult). callAnswer (r .number)) (sym (message-accepted p t s e))
-answer-accepted p (look i now) e = ap (λ (r : LookResult). lookAnswer (r .answer) (r .value)) (sym (look-accepted p i now e))
+answer-accepted p (add t n h) e = ap addWords (sym (add-accepted p t n h e))
+answer-accepted p (linkUp t) e = ap callWords (sym (link-accepted true p t e))
+answer-accepted p (linkDown t) e = ap callWords (sym (link-accepted false p t e))
+answer-accepted p (message t s) e = ap callWords (sym (message-accepted p t s e))
+answer-accepted p (look i now) e = ap lookWords (sym (look-accepted p i now e))
 
 -- ---- a call whose number is not 0 is refused; a look changes no panel
 

@@ -38,7 +38,7 @@ use Rattle.panel.proofs.Laws.Contents.{pose-short}
 use Rattle.panel.proofs.Laws.Faults.{faultOn, changedBy, panel-refused, panel-changed}
 use Rattle.panel.proofs.Laws.Agreement.{PlaceAgrees, vacant, taken, Agrees, place-heard, place-is, free-unused, tile-more}
 use Rattle.history.proofs.Laws.Longer.{summary-more, longer, counted-cases}
-use Rattle.panel.proofs.Laws.History.{Kept, silent, silent-of, keep, relink-kept, hear-kept}
+use Rattle.panel.proofs.Laws.History.{Kept, uncounted, uncounted-of, keep, relink-kept, hear-kept}
 use Rattle.panel.proofs.Laws.Checked.{allowed-passed, clock-passed, begun-label, begun-value, next-free, fault-same}
 
 -- what is known of a panel after the calls cs
@@ -94,13 +94,13 @@ module _ (R : Reader) (cs : List Call) (p : Panel) (G : Invariant R cs p) where
           kept = λ i. keep R cs c i _ (n i) l (G .kept i);
         }
 
-    refused-good : (numberOn R b c ≡ 0 → ⊥) → Invariant R (longer R cs c) p
-    refused-good z = quiet (book-kept z) (λ i t m d. z (d .counts)) (λ l. z (l .accepted))
+    refused-invariant : (numberOn R b c ≡ 0 → ⊥) → Invariant R (longer R cs c) p
+    refused-invariant z = quiet (book-kept z) (λ i t m d. z (d .counts)) (λ l. z (l .accepted))
 
     -- an accepted link call
-    link-good : (up : Bool) (t : ℕ) → isMessage c ≡ false → LinkCall R b c → b .clock ≤ t
+    link-invariant : (up : Bool) (t : ℕ) → isMessage c ≡ false → LinkCall R b c → b .clock ≤ t
         → summaryOf R (longer R cs c) ≡ record { tiles = b .tiles; up = up; clock = t } → Invariant R (longer R cs c) (linked p up t)
-    link-good up t o l h e =
+    link-invariant up t o l h e =
         record {
           agrees = subst (Agrees (linked p up t)) (sym e)
               (record { clock = refl; up = refl; size = length-map (p .tiles) relinked ∙ G .agrees .size; places = place-at });
@@ -157,12 +157,12 @@ module _ (R : Reader) (cs : List Call) (p : Panel) (G : Invariant R cs p) where
         (cond-cases (Kept R (longer R cs call) i) (eqb i place) tile (getD (p .tiles) i noTile)
         (λ q.
         let f : getD (p .tiles) i noTile .used ≡ false = ap (λ (j : ℕ). getD (p .tiles) j noTile .used) (eqb-true i place q) ∙ free-unused (p .tiles) in
-        let o : NoneCounted R cs i = silent-of R cs i _ (place-heard (G .agrees .places i) f) (G .kept i) in
-        silent refl (λ k u m d. ⊎-elim (o k u m) (λ w. no-count R b call refl i u m (w .1)) (counted-cases R cs call i k u m d)))
+        let o : NoneCounted R cs i = uncounted-of R cs i _ (place-heard (G .agrees .places i) f) (G .kept i) in
+        uncounted refl (λ k u m d. ⊎-elim (o k u m) (λ w. no-count R b call refl i u m (w .1)) (counted-cases R cs call i k u m d)))
         (λ q. keep R cs call i _ (no-count R b call refl i) (λ l. l .link) (G .kept i)))
 
-    add-good : numberOn R b call ≡ 0 → Invariant R (longer R cs call) (entered p tile)
-    add-good z =
+    add-invariant : numberOn R b call ≡ 0 → Invariant R (longer R cs call) (entered p tile)
+    add-invariant z =
         let y = zero-else (allowedFault t n h) _ z in
         let a : isAllowed t n h ≡ true = allowed-passed t n h (y .0) in
         let w = zero-else (cond (any (isOf t n) (b .tiles)) 17 0) _ (y .1) in
@@ -236,8 +236,8 @@ module _ (R : Reader) (cs : List Call) (p : Panel) (G : Invariant R cs p) where
     one-of r bs (reading.more m g l) z = absurd (let y : _≡_ {A = ℕ} 12 0 = z in omega arith)
     one-of r bs (reading.one m w e) z = (m, w, e)
 
-    message-good : Bytes s → numberOn R b sent ≡ 0 → Invariant R (longer R cs sent) (received p t s (readOf s))
-    message-good bs z =
+    message-invariant : Bytes s → numberOn R b sent ≡ 0 → Invariant R (longer R cs sent) (received p t s (readOf s))
+    message-invariant bs z =
         let y = zero-else (clockFault (b .clock) t) _ z in
         let v = zero-else (cond (b .up) 0 14) _ (y .1) in
         let h : b .clock ≤ t = clock-passed (b .clock) t (y .0) in
@@ -256,16 +256,16 @@ module _ (R : Reader) (cs : List Call) (p : Panel) (G : Invariant R cs p) where
 
   -- ---- any call
 
-  accepted-good : (c : Call) → OfBytes c → numberOn R b c ≡ 0 → Invariant R (longer R cs c) (changedBy p c)
-  accepted-good (add t n h) o z = add-good t n h z
-  accepted-good (linkUp t) o z = link-good (linkUp t) true t refl (record { link = tt; accepted = z }) (clock-passed (b .clock) t z) (book-next (linkUp t) z)
-  accepted-good (linkDown t) o z = link-good (linkDown t) false t refl (record { link = tt; accepted = z }) (clock-passed (b .clock) t z) (book-next (linkDown t) z)
-  accepted-good (message t s) o z = message-good t s o z
-  accepted-good (look i now) o z = quiet (look i now) (book-next (look i now) z) (no-count R b (look i now) refl) (λ l. l .link)
+  accepted-invariant : (c : Call) → OfBytes c → numberOn R b c ≡ 0 → Invariant R (longer R cs c) (changedBy p c)
+  accepted-invariant (add t n h) o z = add-invariant t n h z
+  accepted-invariant (linkUp t) o z = link-invariant (linkUp t) true t refl (record { link = tt; accepted = z }) (clock-passed (b .clock) t z) (book-next (linkUp t) z)
+  accepted-invariant (linkDown t) o z = link-invariant (linkDown t) false t refl (record { link = tt; accepted = z }) (clock-passed (b .clock) t z) (book-next (linkDown t) z)
+  accepted-invariant (message t s) o z = message-invariant t s o z
+  accepted-invariant (look i now) o z = quiet (look i now) (book-next (look i now) z) (no-count R b (look i now) refl) (λ l. l .link)
 
   pub step : (c : Call) → OfBytes c → Invariant R (longer R cs c) (panelNext p c)
   step c o =
       let e : faultOn p c ≡ numberOn R b c = fault-same p b (G .agrees) R c o in
       by-zero (faultOn p c)
-      (λ z. subst (Invariant R (longer R cs c)) (sym (panel-changed p c z)) (accepted-good c o (sym e ∙ z)))
-      (λ z. subst (Invariant R (longer R cs c)) (sym (panel-refused p c z)) (refused-good c (λ y. z (e ∙ y))))
+      (λ z. subst (Invariant R (longer R cs c)) (sym (panel-changed p c z)) (accepted-invariant c o (sym e ∙ z)))
+      (λ z. subst (Invariant R (longer R cs c)) (sym (panel-refused p c z)) (refused-invariant c (λ y. z (e ∙ y))))

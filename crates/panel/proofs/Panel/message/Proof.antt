@@ -3,7 +3,7 @@ use mathlib.Core.Path.{sym, ap, ap₂, _∙_}
 use borrow.Author.Tests.{not-true, not-false}
 use borrow.Author.Needs.{needs}
 use Rattle.panel.specs.Tiles.{labelOf, valueOf}
-use Rattle.panel.proofs.Laws.Calls.{message-words, message-late, message-down, message-unread, message-left-over, message-unknown, message-done}
+use Rattle.panel.proofs.Laws.Calls.{callWords, in-words, message-late, message-down, message-unread, message-left-over, message-unknown, message-done}
 use Rattle.panel.proofs.Panel.message.Statement.{statement}
 use Rattle.panel.proofs.Panel.message.Tie as tie
 
@@ -15,7 +15,7 @@ returns c =
     let a = c .before .before .before .before .args in
     let e =
     c .refused-call .ensures ∙ message-late (a .self) (a .clock) (a .bytes .now) (c .before .if1 .taken) in
-    message-words _ _ _ e
+    in-words callWords e
 
 refused-call-requires-2 : tie.Need-refused-call-requires-2
 refused-call-requires-2 c κs = search needs
@@ -26,7 +26,7 @@ returns-2 c =
     let e =
     c .refused-call2 .ensures
     ∙ message-down (a .self) (a .clock) (a .bytes .now) (c .before .before .before .if1 .left) (not-true (a .self .link .up) (c .before .if2 .taken)) in
-    message-words _ _ _ e
+    in-words callWords e
 
 read-requires : tie.Need-read-requires
 read-requires c κs = search needs
@@ -43,7 +43,7 @@ returns-3 c =
     ∙ message-unread (a .self) (a .clock) (a .bytes .now)
     (d .before .before .before .if1 .left) (not-false (a .self .link .up) (d .before .if2 .left)) _ (d .read .ensures)
     (c .before .if3 .taken) in
-    message-words _ _ _ e
+    in-words callWords e
 
 refused-call-requires-4 : tie.Need-refused-call-requires-4
 refused-call-requires-4 c κs = search needs
@@ -57,7 +57,7 @@ returns-4 c =
     ∙ message-left-over (a .self) (a .clock) (a .bytes .now)
     (d .before .before .before .if1 .left) (not-false (a .self .link .up) (d .before .if2 .left)) _ (d .read .ensures)
     (c .before .before .before .if3 .left) (c .before .if4 .taken) in
-    message-words _ _ _ e
+    in-words callWords e
 
 type-text-requires : tie.Need-type-text-requires
 type-text-requires c κs = search needs
@@ -87,7 +87,7 @@ returns-5 c =
     (l .before .before .before .before .before .if3 .left) (l .before .before .before .if4 .left)
     _ (l .label-of .ensures ∙ ap₂ labelOf (l .before .before .type-text .ensures) (l .before .device-name .ensures))
     (sym (h .ensures) ∙ not-true (h .result) (c .before .if5 .taken)) in
-    message-words _ _ _ e
+    in-words callWords e
 
 content-requires : tie.Need-content-requires
 content-requires c κs = search needs
@@ -111,7 +111,7 @@ returns-6 c =
     _ (l .label-of .ensures ∙ ap₂ labelOf (l .before .before .type-text .ensures) (l .before .device-name .ensures))
     (sym (h .ensures) ∙ not-false (h .result) (c .before .before .before .if5 .left))
     _ (c .before .value-of .ensures ∙ ap valueOf (c .before .before .content .ensures)) _ (c .hear-all .ensures) in
-    message-words _ _ _ e
+    in-words callWords e
 
 pub message-spec : {M : Type 1} → statement M
 message-spec =
