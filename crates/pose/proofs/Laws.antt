@@ -1,7 +1,7 @@
 -- The laws of words and of the two contents, which the proofs of this crate and of the crates above it cite.
 use Prim.Native.Nat.{ℕ, zero, suc, _+_, _*_, _<_, _≤_}
 use mathlib.Core.Path.{_≡_, refl, sym, ap, ap₂, _∙_, subst⁻¹}
-use mathlib.Core.Bool.{Bool, true, false, cond}
+use mathlib.Core.Bool.{Bool, cond}
 use mathlib.Core.List.{List, [], _∷_, _++_, map, append-nil}
 use native.Mathlib.Omega.{arith}
 use lib.Dec.{eqb}
@@ -17,6 +17,7 @@ use Rattle.fields.proofs.Laws.Numbers.{length-beBytes, bytes-beBytes, beAt-lt}
 use Rattle.fields.proofs.Laws.Checks.{cond-pass, cond-fault}
 use Rattle.fields.proofs.Laws.Layout.{join-cut, cut-join, widths-numbers, numbers-back, numbers-front}
 use Rattle.fields.proofs.Laws.Stores.{sets-flat-next}
+use Rattle.fields.proofs.Laws.Tests.{cond-cases}
 use Rattle.pose.specs.Words.{Words, wordBytes}
 use Rattle.pose.specs.Transform.{WellTransform, transformFault, transformAt, noTransform, transformOf}
 use Rattle.pose.specs.Position.{PositionCount, three, six, seven, WellPosition, wordsIn, positionFault, positionAt, positionOf, countFault}
@@ -136,11 +137,6 @@ transform-refused c h =
 
 -- ---- POSITION
 
--- what holds of either branch holds of the test
-by-test : (P : ℕ → Type 0) (t : Bool) (x y : ℕ) → (t ≡ true → P x) → (t ≡ false → P y) → P (cond t x y)
-by-test P true x y f g = f refl
-by-test P false x y f g = g refl
-
 -- the bytes of as many words as a POSITION may have hold as many
 in-words : (k : ℕ) → PositionCount k → wordsIn (4 * k) ≡ k
 unfolding wordsIn
@@ -155,9 +151,9 @@ Holds n k = (k ≡ 0 → ⊥) → (n ≡ 4 * k) × PositionCount k
 words-in : (n : ℕ) → Holds n (wordsIn n)
 unfolding wordsIn
 words-in n =
-    by-test (Holds n) (eqb n _) _ _ (λ e h. (eqb-true n _ e, three)) (λ _.
-    by-test (Holds n) (eqb n _) _ _ (λ e h. (eqb-true n _ e, six)) (λ _.
-    by-test (Holds n) (eqb n _) _ _ (λ e h. (eqb-true n _ e, seven)) (λ _ h. absurd (h refl))))
+    cond-cases (Holds n) (eqb n _) _ _ (λ e h. (eqb-true n _ e, three)) (λ _.
+    cond-cases (Holds n) (eqb n _) _ _ (λ e h. (eqb-true n _ e, six)) (λ _.
+    cond-cases (Holds n) (eqb n _) _ _ (λ e h. (eqb-true n _ e, seven)) (λ _ h. absurd (h refl))))
 
 count-some : (k : ℕ) → PositionCount k → k ≡ 0 → ⊥
 count-some k three e = omega arith
@@ -221,9 +217,9 @@ pub count-bytes : (n : ℕ) → countFault n ≡ ofBytes n
 unfolding countFault wordsIn
 count-bytes n =
     let Same : ℕ → Type 0 = λ k. k ≡ ofBytes n in
-    by-test Same (eqb n _) _ _ (λ e. sym (ap ofBytes (eqb-true n _ e))) (λ e3.
-    by-test Same (eqb n _) _ _ (λ e. sym (ap ofBytes (eqb-true n _ e))) (λ e6.
-    by-test Same (eqb n _) _ _ (λ e. sym (ap ofBytes (eqb-true n _ e))) (λ e7.
+    cond-cases Same (eqb n _) _ _ (λ e. sym (ap ofBytes (eqb-true n _ e))) (λ e3.
+    cond-cases Same (eqb n _) _ _ (λ e. sym (ap ofBytes (eqb-true n _ e))) (λ e6.
+    cond-cases Same (eqb n _) _ _ (λ e. sym (ap ofBytes (eqb-true n _ e))) (λ e7.
     none-in n (eqb-false n _ e3) (eqb-false n _ e6) (eqb-false n _ e7))))
 
 -- it passes few words
@@ -231,6 +227,6 @@ pub count-few : (n : ℕ) → countFault n ≡ 0 → n ≤ 7
 unfolding countFault
 count-few n =
     let Few : ℕ → Type 0 = λ k. k ≡ 0 → n ≤ 7 in
-    by-test Few (eqb n _) _ _ (λ e h. omega (arith, eqb-true n _ e)) (λ _.
-    by-test Few (eqb n _) _ _ (λ e h. omega (arith, eqb-true n _ e)) (λ _.
-    by-test Few (eqb n _) _ _ (λ e h. omega (arith, eqb-true n _ e)) (λ _ h. absurd (omega arith))))
+    cond-cases Few (eqb n _) _ _ (λ e h. omega (arith, eqb-true n _ e)) (λ _.
+    cond-cases Few (eqb n _) _ _ (λ e h. omega (arith, eqb-true n _ e)) (λ _.
+    cond-cases Few (eqb n _) _ _ (λ e h. omega (arith, eqb-true n _ e)) (λ _ h. absurd (omega arith))))

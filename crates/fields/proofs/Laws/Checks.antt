@@ -20,6 +20,11 @@ else-first (suc a) b h = refl
 pub else-second : (a b : ℕ) → a ≡ 0 → orElse a b ≡ b
 else-second a b h = ap (λ (x : ℕ). orElse x b) h
 
+-- two checks with the same first
+pub else-same : (a x y : ℕ) → (a ≡ 0 → x ≡ y) → orElse a x ≡ orElse a y
+else-same zero x y h = h refl
+else-same (suc a) x y h = refl
+
 -- a test whose truth is a fault
 pub cond-fault : (t : Bool) (k n : ℕ) → cond t (suc k) n ≡ 0 → (t ≡ false) × (n ≡ 0)
 cond-fault true k n h = absurd (let z : _≡_ {A = ℕ} (suc k) 0 = h in omega arith)

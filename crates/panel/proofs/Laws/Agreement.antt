@@ -1,12 +1,12 @@
 -- The panel and the book hold the same, place by place.
-use Prim.Native.Nat.{ℕ, zero, suc, _≤_}
+use Prim.Native.Nat.{ℕ, zero, suc}
 use mathlib.Core.Path.{_≡_, refl, ap, ap₂, sym, _∙_}
 use mathlib.Core.Bool.{Bool, true, false, cond, _&&_, _||_}
 use mathlib.Core.List.{List, [], _∷_, _++_}
 use mathlib.Core.Option.{Option, none, some}
 use native.Mathlib.Omega.{arith}
 use lib.Dec.{eqb, ltb, eqb·suc-suc, eqb·suc-zero, eqb·zero-suc}
-use lib.ListN.{length, getD, replicate}
+use lib.ListN.{length, getD, replicate, List·getD-eq-default}
 use borrow.Author.Tests.{ltb-false}
 use Rattle.fields.specs.Lists.{any}
 use Rattle.header.specs.Header.{WellTexts}
@@ -76,11 +76,6 @@ pub free-unused : (xs : List Tile) → getD xs (freeIn xs) noTile .used ≡ fals
 free-unused [] = refl
 free-unused (x ∷ xs) = by-test (x .used) (λ q. rw q (free-unused xs)) (λ q. rw q refl)
 
-tile-past : (xs : List Tile) (i : ℕ) → length xs ≤ i → getD xs i noTile ≡ noTile
-tile-past [] i h = refl
-tile-past (x ∷ xs) zero h = absurd (omega arith)
-tile-past (x ∷ xs) (suc i) h = tile-past xs i (omega arith)
-
 -- the numbers that tiles have
 pub there-alike : (p : Panel) (b : Summary) → Agrees p b → (i : ℕ) → (ltb i 16 && getD (p .tiles) i noTile .used) ≡ isThere (tileAt b i)
 there-alike p b T i =
@@ -89,7 +84,7 @@ there-alike p b T i =
     (λ q. ap (λ (t : Bool). t && x .used) q ∙ place-used (T .places i))
     (λ q.
     ap (λ (t : Bool). t && x .used) q
-    ∙ sym (sym (place-used (T .places i)) ∙ ap (λ (y : Tile). y .used) (tile-past (p .tiles) i (omega (arith, ltb-false i 16 q, T .size)))))
+    ∙ sym (sym (place-used (T .places i)) ∙ ap (λ (y : Tile). y .used) (List·getD-eq-default (p .tiles) noTile (omega (arith, ltb-false i 16 q, T .size)))))
 
 -- ---- a tile more in the book
 

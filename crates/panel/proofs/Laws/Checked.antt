@@ -1,5 +1,5 @@
 -- The panel's checks are the book's.
-use Prim.Native.Nat.{ℕ, zero, suc, _≤_}
+use Prim.Native.Nat.{ℕ, _≤_}
 use mathlib.Core.Path.{_≡_, refl, ap, ap₂, _∙_}
 use mathlib.Core.Bool.{Bool, true, cond}
 use mathlib.Core.List.{List}
@@ -10,7 +10,7 @@ use borrow.Author.Tests.{ltb-false}
 use Rattle.fields.specs.Bytes.{Bytes}
 use Rattle.fields.specs.Lists.{any}
 use Rattle.fields.specs.Checks.{orElse}
-use Rattle.fields.proofs.Laws.Checks.{cond-pass, cond-fault}
+use Rattle.fields.proofs.Laws.Checks.{else-same, cond-pass, cond-fault}
 use Rattle.content.specs.Tree.{typeText}
 use Rattle.message.specs.Message.{Message, Parts}
 use Rattle.message.specs.Check.{readOf}
@@ -30,11 +30,6 @@ use Rattle.history.proofs.Laws.Readings.{begins-one, none-number, one-step, mor
 use Rattle.panel.proofs.Laws.Labels.{allowed, allowed-texts}
 use Rattle.panel.proofs.Laws.Faults.{faultOn}
 use Rattle.panel.proofs.Laws.Agreement.{Agrees, place-used, place-is, any-alike, next-alike, there-alike}
-
--- checks whose first is the same
-else-same : (a x y : ℕ) → (a ≡ 0 → x ≡ y) → orElse a x ≡ orElse a y
-else-same zero x y h = h refl
-else-same (suc a) x y h = refl
 
 pub allowed-passed : (t n : List ℕ) (h : ℕ) → allowedFault t n h ≡ 0 → isAllowed t n h ≡ true
 unfolding allowedFault
