@@ -1,0 +1,54 @@
+-- `exports::kudireppa_read_fields` meets its contract: thirteen stores are one.
+use mathlib.Core.Path.{ap, _∙_}
+use mathlib.Core.List.{List}
+use Prim.Native.Nat.{ℕ}
+use lib.ListN.{replicate}
+use lib.Seq.{sets}
+use Rattle.fields.specs.Layout.{stores}
+use Rattle.message.specs.declared.Answer.{Answer}
+use Rattle.exports.specs.Exports.{numberFields8, fieldNumbers, partNumbers, answerBytes}
+use Rattle.exports.proofs.Laws.{answer-stored}
+use borrow.Author.Needs.{needs}
+use Rattle.exports.proofs.kudireppa_read_fields.Statement.{statement}
+use Rattle.exports.proofs.kudireppa_read_fields.Tie as tie
+
+read-requires : tie.Need-read-requires
+read-requires c κs = search needs
+
+cast-put64 : tie.Need-cast-put64
+cast-put64 c = search needs
+
+put64-requires : tie.Need-put64-requires
+put64-requires c κs = search needs
+
+put-fields-requires : tie.Need-put-fields-requires
+put-fields-requires c κs = search needs
+
+put-parts-requires : tie.Need-put-parts-requires
+put-parts-requires c κs = search needs
+
+same-length : tie.Need-same-length
+same-length c = search needs
+
+returns : tie.Need-returns
+returns c =
+    let read = c .before .before .before .before .before .before .before .before .before .before .before .before .before .read in
+    let out : List ℕ = c .before .before .before .before .before .before .before .before .before .before .before .before .before .before .before .before .args .out .now in
+    c .before .before .put-parts .ensures
+    ∙ ap (λ (o : List ℕ). stores o 56 (numberFields8 (partNumbers (read .result))) (replicate 6 8))
+    (c .before .before .before .before .before .before .put-fields .ensures
+    ∙ ap (λ (o : List ℕ). stores o 8 (numberFields8 (fieldNumbers (read .result))) (replicate 6 8)) (c .before .before .before .before .before .before .before .before .before .before .put64 .ensures))
+    ∙ answer-stored out (read .result)
+    ∙ ap (λ (a : Answer). sets out 0 (answerBytes a)) (read .ensures)
+
+pub kudireppa-read-fields-spec : {M : Type 1} → statement M
+kudireppa-read-fields-spec =
+    tie.close
+    (tie.spec
+    read-requires
+    cast-put64
+    put64-requires
+    put-fields-requires
+    put-parts-requires
+    same-length
+    returns)
