@@ -1,0 +1,66 @@
+-- The borders that document 01 marks P, with the sentences that follow them, as one table: of the definitions that the contracts cite.
+use Prim.Native.Nat.{ℕ, _^_, _<_, _≤_}
+use mathlib.Core.Path.{_≡_}
+use mathlib.Core.List.{List, [], _∷_, _++_}
+use lib.ListN.{length, replicate}
+use Rattle.fields.specs.Bytes.{Bytes}
+use Rattle.fields.specs.Text.{Text}
+use Rattle.crc64.specs.Crc.{crcOf}
+use Rattle.image.specs.Image.{imageFault}
+use Rattle.image.specs.Examples as image
+use Rattle.content.specs.Kinds.{transformText}
+use Rattle.content.specs.Check.{bindFault, deepest}
+use Rattle.content.specs.Examples.{oneChild}
+use Rattle.message.specs.Message.{Message}
+use Rattle.message.specs.Check.{readOf, contentIn}
+use Rattle.message.specs.Check as message
+use Rattle.message.specs.Examples.{ofVersion2, getStatusText, body12}
+use Rattle.history.specs.Calls.{Call, linkUp, look, refused, green, grey}
+use Rattle.history.specs.History.{valueFor}
+use Rattle.panel.specs.Examples.{FromArm, armCalls, looked}
+
+-- ---- the inputs
+
+-- a BIND of one TRANSFORM with this name
+abbrev pub bindOfTransform : List ℕ → List ℕ
+bindOfTransform name = oneChild transformText name (replicate 48 0)
+
+-- an IMAGE with T 3, S 5, these RI, DI and DRI, DRJ 2, DRK 1, and pixels of 24 bytes
+abbrev pub imageOfBorder : ℕ → ℕ → ℕ → List ℕ
+imageOfBorder ri di dri = image.content (image.header 5 ri di dri) 24
+
+-- P10's calls, its look, P11's two, and P12's link up
+abbrev pub callsOfP12 : Message → List Call
+callsOfP12 m = armCalls m ++ (look 0 1700 ∷ look 0 1701 ∷ look 0 1199 ∷ linkUp 1400 ∷ [])
+
+-- ---- the table
+
+pub record Borders : Type 0 where
+  -- the CRC of no bytes, of 01, of 02
+  pub p1 : crcOf [] ≡ 0
+  pub p2 : crcOf (0x01 ∷ []) ≡ 0x42F0E1EBA9EA3693
+  pub p3 : crcOf (0x02 ∷ []) ≡ 0x85E1C3D753D46D26
+  -- 57 bytes: 1, and no step
+  pub p4 : (s : List ℕ) → length s ≡ 57 → readOf s ≡ message.refused 1 0
+  -- V 2, TYPE GET_STATUS, body 12, both sizes 12 and 0, for every device name, time stamp and MSG_ID: accepted, step 70, empty content
+  pub p5 : (name : List ℕ) (stamp id : ℕ) → Text name → length name ≤ 20 → stamp < 256 ^ 8 → id < 256 ^ 4
+      → let s = ofVersion2 getStatusText name stamp (body12 id) in
+      (readOf s .number ≡ 0) × (readOf s .step ≡ 70) × (contentIn s (readOf s) ≡ [])
+  -- V 2, any body of 11 bytes with its CRC: 6, and the step past it
+  pub p6 : (type name : List ℕ) (stamp : ℕ) (body : List ℕ) → Text type → length type ≤ 12 → Text name → length name ≤ 20
+      → stamp < 256 ^ 8 → Bytes body → length body ≡ 11 → readOf (ofVersion2 type name stamp body) ≡ message.refused 6 69
+  -- BIND content 00 00 00 00: accepted
+  pub p7 : bindFault deepest (0 ∷ 0 ∷ 0 ∷ 0 ∷ []) ≡ 0
+  -- one child TRANSFORM named "A": 74 bytes; named "AB": 76
+  pub p8-a : (length (bindOfTransform (65 ∷ [])) ≡ 74) × (bindFault deepest (bindOfTransform (65 ∷ [])) ≡ 0)
+  pub p8-ab : (length (bindOfTransform (65 ∷ 66 ∷ [])) ≡ 76) × (bindFault deepest (bindOfTransform (65 ∷ 66 ∷ [])) ≡ 0)
+  -- IMAGE T 3, S 5, 2 x 2 x 1: 96 bytes. RI 3, DI 1, DRI 2 passes; RI 2 is 9
+  pub p9 : (length (imageOfBorder 2 0 2) ≡ 96) × (imageFault (imageOfBorder 2 0 2) ≡ 0)
+  pub p9-inside : imageFault (imageOfBorder 3 1 2) ≡ 0
+  pub p9-outside : imageFault (imageOfBorder 2 1 2) ≡ 9
+  -- Add Arm, TRANSFORM, 500; link up 1000; message 1200, any TRANSFORM from Arm. Look 1700: green, 500; look 1701: grey, 501; look 1199: 15
+  pub p10 : (m : Message) → FromArm m → looked (armCalls m) 1700 ≡ green 500 (valueFor m)
+  pub p11 : (m : Message) → FromArm m → looked (armCalls m) 1701 ≡ grey 501 (valueFor m)
+  pub p11-earlier : (m : Message) → FromArm m → looked (armCalls m) 1199 ≡ refused 15
+  -- then link up 1400; look 1400: grey, 200
+  pub p12 : (m : Message) → FromArm m → looked (callsOfP12 m) 1400 ≡ grey 200 (valueFor m)
