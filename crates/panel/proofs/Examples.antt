@@ -21,11 +21,11 @@ use Rattle.history.specs.History.{valueFor}
 use Rattle.panel.specs.declared.Label.{Label}
 use Rattle.panel.specs.declared.Value.{Value}
 use Rattle.panel.specs.declared.Panel.{Panel}
-use Rattle.panel.specs.Tiles.{valueOf, labelOf, heardBy, isTile}
-use Rattle.panel.specs.Calls.{labelIn, addFault, addOf, linkOf, heardFault, messageFault, lookFault, lookOf}
+use Rattle.panel.specs.Tiles.{valueOf, labelOf, countedFor, isTile}
+use Rattle.panel.specs.Calls.{labelIn, addFault, addOf, linkOf, readFault, messageFault, lookFault, lookOf}
 use Rattle.panel.specs.Demand3.{answerTo, panelNext, panelAfter}
 use Rattle.panel.specs.Examples.{armText, FromArm, armCalls, Examples}
-use Rattle.panel.proofs.Laws.Calls.{heard-whole}
+use Rattle.panel.proofs.Laws.Calls.{read-whole}
 use Rattle.history.proofs.Laws.Readings.{begins-one, one-step}
 use Rattle.panel.proofs.Laws.Contents.{bytesOf, pose-short, value-bytes}
 use Rattle.panel.proofs.Laws.Faults.{panel-changed}
@@ -39,8 +39,8 @@ abbrev linkedPanel : Panel
 linkedPanel = panelAfter (add transformText armText 500 ∷ linkUp 1000 ∷ [])
 
 -- and after the message with this value
-abbrev heardPanel : Value → Panel
-heardPanel v = record { tiles = map (heardBy arm 1200 v) (linkedPanel .tiles); link = record { up = true; clock = 1200 } }
+abbrev countedPanel : Value → Panel
+countedPanel v = record { tiles = map (countedFor arm 1200 v) (linkedPanel .tiles); link = record { up = true; clock = 1200 } }
 
 module _ (m : Message) (f : FromArm m) where
   front : Begins (encode m) m
@@ -49,22 +49,22 @@ module _ (m : Message) (f : FromArm m) where
   label-is : labelIn (encode m) (readOf (encode m)) ≡ arm
   label-is = begun-label (encode m) m front ∙ ap₂ labelOf (f .is-transform) (f .is-arm)
 
-  heard-fault : heardFault (linkedPanel .tiles) (encode m) (readOf (encode m)) ≡ 0
+  read-fault : readFault (linkedPanel .tiles) (encode m) (readOf (encode m)) ≡ 0
   unfolding panelAfter addOf addFault linkOf allowedFault isAllowed clockFault same sized any isText all
-  heard-fault =
-      heard-whole (linkedPanel .tiles) (encode m) (readOf (encode m)) (demand-2 .begun (encode m) m front)
+  read-fault =
+      read-whole (linkedPanel .tiles) (encode m) (readOf (encode m)) (demand-2 .begun (encode m) m front)
       (omega (arith, one-step (encode m) m (f .well) refl))
       ∙ ap (λ (l : Label). cond (any (isTile l) (linkedPanel .tiles)) 0 13) label-is
 
   message-fault : messageFault linkedPanel 1200 (encode m) ≡ 0
   unfolding messageFault panelAfter addOf addFault linkOf allowedFault isAllowed clockFault same sized any isText all
-  message-fault = heard-fault
+  message-fault = read-fault
 
-  heard-panel : panelAfter (armCalls m) ≡ heardPanel (valueOf (valueFor m))
+  counted-panel : panelAfter (armCalls m) ≡ countedPanel (valueOf (valueFor m))
   unfolding panelAfter
-  heard-panel =
+  counted-panel =
       panel-changed linkedPanel (message 1200 (encode m)) message-fault
-      ∙ ap₂ (λ (l : Label) (v : Value). record { tiles = map (heardBy l 1200 v) (linkedPanel .tiles); link = record { up = true; clock = 1200 } })
+      ∙ ap₂ (λ (l : Label) (v : Value). record { tiles = map (countedFor l 1200 v) (linkedPanel .tiles); link = record { up = true; clock = 1200 } })
       label-is (begun-value (encode m) m front)
 
   short : length (valueFor m) ≤ 48
@@ -72,10 +72,10 @@ module _ (m : Message) (f : FromArm m) where
 
   -- what a look shows after those calls and the next ones
   shown : (next : Panel → Panel) (a : List ℕ → Answer) (now : ℕ)
-      → answerTo (next (heardPanel (valueOf (valueFor m)))) (look 0 now) ≡ a (bytesOf (valueOf (valueFor m)))
+      → answerTo (next (countedPanel (valueOf (valueFor m)))) (look 0 now) ≡ a (bytesOf (valueOf (valueFor m)))
       → answerTo (next (panelAfter (armCalls m))) (look 0 now) ≡ a (valueFor m)
   shown next a now e =
-      ap (λ (p : Panel). answerTo (next p) (look 0 now)) heard-panel ∙ e ∙ ap a (value-bytes (valueFor m) short)
+      ap (λ (p : Panel). answerTo (next p) (look 0 now)) counted-panel ∙ e ∙ ap a (value-bytes (valueFor m) short)
 
 pub examples : Examples
 unfolding panelAfter addOf addFault linkOf allowedFault isAllowed clockFault lookOf lookFault same sized any isText all

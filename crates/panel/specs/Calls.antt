@@ -18,7 +18,7 @@ use Rattle.panel.specs.declared.AddAnswer.the-variants as added
 use Rattle.panel.specs.declared.CallResult.{CallResult}
 use Rattle.panel.specs.declared.LookResult.{LookResult}
 use Rattle.panel.specs.declared.LookAnswer.the-variants as looked
-use Rattle.panel.specs.Tiles.{valueOf, noValue, labelOf, freeTile, noTile, newTile, isTile, relinked, heardBy, shownBy, freeIn}
+use Rattle.panel.specs.Tiles.{valueOf, noValue, labelOf, freeTile, noTile, newTile, isTile, relinked, countedFor, shownBy, freeIn}
 
 -- no tiles, link down, clock 0
 abbrev pub freshPanel : Panel
@@ -71,14 +71,14 @@ labelIn s a = labelOf (typeIn s a) (nameIn s a)
 abbrev pub valueIn : List ℕ → Answer → Value
 valueIn s a = valueOf (contentIn s a)
 
-unfoldable pub heardFault : List Tile → List ℕ → Answer → ℕ
-heardFault ts s a = orElse (a .number) (orElse (cond (ltb (a .step) (length s)) 12 0) (cond (any (isTile (labelIn s a)) ts) 0 13))
+unfoldable pub readFault : List Tile → List ℕ → Answer → ℕ
+readFault ts s a = orElse (a .number) (orElse (cond (ltb (a .step) (length s)) 12 0) (cond (any (isTile (labelIn s a)) ts) 0 13))
 
 unfoldable pub messageFault : Panel → ℕ → List ℕ → ℕ
-messageFault p t s = orElse (clockFault (p .link .clock) t) (orElse (cond (p .link .up) 0 14) (heardFault (p .tiles) s (readOf s)))
+messageFault p t s = orElse (clockFault (p .link .clock) t) (orElse (cond (p .link .up) 0 14) (readFault (p .tiles) s (readOf s)))
 
 abbrev pub received : Panel → ℕ → List ℕ → Answer → Panel
-received p t s a = record { tiles = map (heardBy (labelIn s a) t (valueIn s a)) (p .tiles); link = record { up = true; clock = t } }
+received p t s a = record { tiles = map (countedFor (labelIn s a) t (valueIn s a)) (p .tiles); link = record { up = true; clock = t } }
 
 unfoldable pub messageOf : Panel → ℕ → List ℕ → CallResult
 messageOf p t s =
@@ -93,7 +93,7 @@ lookFault p i now = orElse (cond (ltb i 16 && getD (p .tiles) i noTile .used) 0 
 
 -- a tile as it is shown: a value goes with green and grey
 abbrev pub lookedAt : Panel → Tile → ℕ → LookResult
-lookedAt p x now = record { panel = p; answer = shownBy x now; value = cond (x .heard) (x .value) noValue }
+lookedAt p x now = record { panel = p; answer = shownBy x now; value = cond (x .counted) (x .value) noValue }
 
 unfoldable pub lookOf : Panel → ℕ → ℕ → LookResult
 lookOf p i now = cond (eqb (lookFault p i now) 0) (lookedAt p (getD (p .tiles) i noTile) now) (refusedLook p (lookFault p i now))

@@ -29,7 +29,7 @@ freeTile =
       used = false;
       label = labelOf [] [];
       «hold_time» = 0;
-      heard = false;
+      counted = false;
       «since_link» = false;
       clock = 0;
       value = noValue;
@@ -42,7 +42,7 @@ noTile =
       used = false;
       label = record { «type_text» = []; name = [] };
       «hold_time» = 0;
-      heard = false;
+      counted = false;
       «since_link» = false;
       clock = 0;
       value = record { bytes = []; len = 0 };
@@ -55,7 +55,7 @@ newTile l h =
       used = true;
       label = l;
       «hold_time» = h;
-      heard = false;
+      counted = false;
       «since_link» = false;
       clock = 0;
       value = noValue;
@@ -72,34 +72,34 @@ relinked x =
       used = x .used;
       label = x .label;
       «hold_time» = x .«hold_time»;
-      heard = x .heard;
+      counted = x .counted;
       «since_link» = false;
       clock = x .clock;
       value = x .value;
     }
 
 -- what a message that counts does to a tile: with its clock and value, to the tile of its type and name
-abbrev pub heardTile : Tile → ℕ → Value → Tile
-heardTile x t v =
+abbrev pub countedTile : Tile → ℕ → Value → Tile
+countedTile x t v =
     record {
       used = true;
       label = x .label;
       «hold_time» = x .«hold_time»;
-      heard = true;
+      counted = true;
       «since_link» = true;
       clock = t;
       value = v;
     }
 
-abbrev pub heardBy : Label → ℕ → Value → Tile → Tile
-heardBy l t v x = cond (isTile l x) (heardTile x t v) x
+abbrev pub countedFor : Label → ℕ → Value → Tile → Tile
+countedFor l t v x = cond (isTile l x) (countedTile x t v) x
 
 -- the colour and the age that a tile shows
 abbrev pub colourOf : Bool → ℕ → ℕ → LookAnswer
 colourOf sinceLink age holdTime = cond (sinceLink && leb age holdTime) (Green age) (Grey age)
 
 abbrev pub shownBy : Tile → ℕ → LookAnswer
-shownBy x now = cond (x .heard) (colourOf (x .«since_link») (now - x .clock) (x .«hold_time»)) Empty
+shownBy x now = cond (x .counted) (colourOf (x .«since_link») (now - x .clock) (x .«hold_time»)) Empty
 
 -- the first place that no tile has, or the table's length
 abbrev pub freeIn : List Tile → ℕ

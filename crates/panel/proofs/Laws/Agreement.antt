@@ -22,7 +22,7 @@ use Rattle.panel.proofs.Laws.Labels.{allowed, allowed-texts, sameLabel,
 
 -- the place holds what the book has under its number
 pub data PlaceAgrees (x : Tile) : Option Entry → Type 0 where
-  vacant : x .used ≡ false → x .heard ≡ false → PlaceAgrees x none
+  vacant : x .used ≡ false → x .counted ≡ false → PlaceAgrees x none
   taken : {e : Entry} → x .used ≡ true → x .label ≡ labelOf (e .typeText) (e .name) → x .«hold_time» ≡ e .holdTime
       → isAllowed (e .typeText) (e .name) (e .holdTime) ≡ true → PlaceAgrees x (some e)
 
@@ -38,10 +38,10 @@ pub place-used : {x : Tile} {o : Option Entry} → PlaceAgrees x o → x .used �
 place-used (vacant u h) = u
 place-used (taken u l h a) = u
 
--- an empty place has heard nothing
-pub place-heard : {x : Tile} {o : Option Entry} → PlaceAgrees x o → x .used ≡ false → x .heard ≡ false
-place-heard (vacant u h) f = h
-place-heard {x} (taken u l h a) f = true-false (x .used) u f
+-- no message counted for a place that no tile has
+pub place-uncounted : {x : Tile} {o : Option Entry} → PlaceAgrees x o → x .used ≡ false → x .counted ≡ false
+place-uncounted (vacant u h) f = h
+place-uncounted {x} (taken u l h a) f = true-false (x .used) u f
 
 pub place-hold : {x : Tile} {o : Option Entry} → PlaceAgrees x o → isThere o ≡ true → x .«hold_time» ≡ holdTimeOf o
 place-hold (vacant u h) t = true-false false t refl

@@ -22,8 +22,8 @@ use Rattle.panel.specs.declared.AddResult.{AddResult}
 use Rattle.panel.specs.declared.AddAnswer.the-variants.{Added}
 use Rattle.panel.specs.declared.CallResult.{CallResult}
 use Rattle.panel.specs.declared.LookResult.{LookResult}
-use Rattle.panel.specs.Tiles.{labelOf, noTile, newTile, isTile, relinked, heardBy, freeIn}
-use Rattle.panel.specs.Calls.{refusedAdd, refusedCall, refusedLook, addFault, entered, addOf, linked, linkOf, labelIn, valueIn, heardFault, messageFault, received, messageOf, lookFault, lookedAt, lookOf}
+use Rattle.panel.specs.Tiles.{labelOf, noTile, newTile, isTile, relinked, countedFor, freeIn}
+use Rattle.panel.specs.Calls.{refusedAdd, refusedCall, refusedLook, addFault, entered, addOf, linked, linkOf, labelIn, valueIn, readFault, messageFault, received, messageOf, lookFault, lookedAt, lookOf}
 use Rattle.panel.specs.Answers.{addAnswer, callAnswer, lookAnswer}
 
 -- ---- a call is refused with the number of its fault, or does what it is there for
@@ -120,19 +120,19 @@ module _ (up : Bool) (p : Panel) (t : ℕ) where
 
 -- the checks of what the reader answers
 module _ (ts : List Tile) (s : List ℕ) (a : Answer) where
-  pub heard-unread : (a .number ≡ 0 → ⊥) → heardFault ts s a ≡ a .number
-  unfolding heardFault
-  heard-unread h = else-first (a .number) _ h
+  pub read-refused : (a .number ≡ 0 → ⊥) → readFault ts s a ≡ a .number
+  unfolding readFault
+  read-refused h = else-first (a .number) _ h
 
   module _ (accepted : a .number ≡ 0) where
-    pub heard-left-over : a .step < length s → heardFault ts s a ≡ 12
-    unfolding heardFault
-    heard-left-over h =
+    pub read-left-over : a .step < length s → readFault ts s a ≡ 12
+    unfolding readFault
+    read-left-over h =
         else-second (a .number) _ accepted ∙ fault-first _ _ 11 (ap (λ (x : Bool). cond x 12 0) (lt-ltb (a .step) (length s) h))
 
-    pub heard-whole : length s ≤ a .step → heardFault ts s a ≡ cond (any (isTile (labelIn s a)) ts) 0 13
-    unfolding heardFault
-    heard-whole h =
+    pub read-whole : length s ≤ a .step → readFault ts s a ≡ cond (any (isTile (labelIn s a)) ts) 0 13
+    unfolding readFault
+    read-whole h =
         else-second (a .number) _ accepted
         ∙ else-second (cond (ltb (a .step) (length s)) 12 0) _ (ap (λ (x : Bool). cond x 12 0) (le-ltb (a .step) (length s) h))
 
@@ -161,37 +161,37 @@ module _ (p : Panel) (t : ℕ) (s : List ℕ) where
 
     -- on a link that is up, with the reader's answer as the code has it
     module _ (up : p .link .up ≡ true) (a : Answer) (read : a ≡ readOf s) where
-      fault-heard : messageFault p t s ≡ heardFault (p .tiles) s a
+      fault-read : messageFault p t s ≡ readFault (p .tiles) s a
       unfolding messageFault
-      fault-heard =
+      fault-read =
           else-second (clockFault (p .link .clock) t) _ (clock-pass (p .link .clock) t in-time)
           ∙ else-second (cond (p .link .up) 0 14) _ (ap (λ (x : Bool). cond x 0 14) up)
-          ∙ ap (heardFault (p .tiles) s) (sym read)
+          ∙ ap (readFault (p .tiles) s) (sym read)
 
       pub message-unread : (a .number ≡ 0 → ⊥) → refusedCall p (a .number) ≡ messageOf p t s
-      message-unread h = message-refused (a .number) (fault-heard ∙ heard-unread (p .tiles) s a h) h
+      message-unread h = message-refused (a .number) (fault-read ∙ read-refused (p .tiles) s a h) h
 
       module _ (accepted : a .number ≡ 0) where
         pub message-left-over : a .step < length s → refusedCall p 12 ≡ messageOf p t s
-        message-left-over h = message-refused 12 (fault-heard ∙ heard-left-over (p .tiles) s a accepted h) (suc-ne-zero 11)
+        message-left-over h = message-refused 12 (fault-read ∙ read-left-over (p .tiles) s a accepted h) (suc-ne-zero 11)
 
         -- of one whole message, with its label as the code has it
         module _ (whole : length s ≤ a .step) (l : Label) (labelled : l ≡ labelIn s a) where
           fault-unknown : messageFault p t s ≡ cond (any (isTile l) (p .tiles)) 0 13
           fault-unknown =
-              fault-heard
-              ∙ heard-whole (p .tiles) s a accepted whole
+              fault-read
+              ∙ read-whole (p .tiles) s a accepted whole
               ∙ ap (λ (x : Label). cond (any (isTile x) (p .tiles)) 0 13) (sym labelled)
 
           pub message-unknown : any (isTile l) (p .tiles) ≡ false → refusedCall p 13 ≡ messageOf p t s
           message-unknown h = message-refused 13 (fault-unknown ∙ ap (λ (x : Bool). cond x 0 13) h) (suc-ne-zero 12)
 
           pub message-done : any (isTile l) (p .tiles) ≡ true → (v : Value) → v ≡ valueIn s a
-              → (ts : List Tile) → ts ≡ map (heardBy l t v) (p .tiles)
+              → (ts : List Tile) → ts ≡ map (countedFor l t v) (p .tiles)
               → _≡_ {A = CallResult} (record { panel = record { tiles = ts; link = record { up = true; clock = t } }; number = 0 }) (messageOf p t s)
-          message-done h v valued ts heard =
+          message-done h v valued ts counted =
               ap (λ (x : List Tile). record { panel = record { tiles = x; link = record { up = true; clock = t } }; number = 0 })
-              (heard ∙ ap₂ (λ (x : Label) (y : Value). map (heardBy x t y) (p .tiles)) labelled valued)
+              (counted ∙ ap₂ (λ (x : Label) (y : Value). map (countedFor x t y) (p .tiles)) labelled valued)
               ∙ ap (λ (x : Answer). record { panel = received p t s x; number = 0 }) read
               ∙ message-accepted (fault-unknown ∙ ap (λ (x : Bool). cond x 0 13) h)
 

@@ -24,8 +24,8 @@ use Rattle.history.specs.History.{valueFor}
 use Rattle.panel.specs.declared.Label.{Label}
 use Rattle.panel.specs.declared.Panel.{Panel}
 use Rattle.panel.specs.Tiles.{valueOf, labelOf, isTile, freeIn}
-use Rattle.panel.specs.Calls.{addFault, labelIn, valueIn, heardFault, messageFault, lookFault}
-use Rattle.panel.proofs.Laws.Calls.{heard-unread, heard-left-over, heard-whole}
+use Rattle.panel.specs.Calls.{addFault, labelIn, valueIn, readFault, messageFault, lookFault}
+use Rattle.panel.proofs.Laws.Calls.{read-refused, read-left-over, read-whole}
 use Rattle.history.proofs.Laws.Readings.{begins-one, none-number, one-step, more-step}
 use Rattle.panel.proofs.Laws.Labels.{allowed, allowed-texts}
 use Rattle.panel.proofs.Laws.Faults.{faultOn}
@@ -52,12 +52,12 @@ module _ (p : Panel) (b : Summary) (T : Agrees p b) where
   next-free = next-alike (p .tiles) (b .tiles) (λ i. place-used (T .places i))
 
   -- the reader's number, 12, 13
-  heard-same : (s : List ℕ) (r : Reading) → Bytes s → Reads s r → heardFault (p .tiles) s (readOf s) ≡ readingNumber (b .tiles) r
-  heard-same s r bs (none n) = heard-unread (p .tiles) s (readOf s) (none-number s bs n) ∙ read-number s
-  heard-same s r bs (more m g h) = heard-left-over (p .tiles) s (readOf s) (demand-2 .begun s m g) (omega (arith, more-step s m g h))
-  heard-same s r bs (one m w e) =
+  read-same : (s : List ℕ) (r : Reading) → Bytes s → Reads s r → readFault (p .tiles) s (readOf s) ≡ readingNumber (b .tiles) r
+  read-same s r bs (none n) = read-refused (p .tiles) s (readOf s) (none-number s bs n) ∙ read-number s
+  read-same s r bs (more m g h) = read-left-over (p .tiles) s (readOf s) (demand-2 .begun s m g) (omega (arith, more-step s m g h))
+  read-same s r bs (one m w e) =
       let g : Begins s m = begins-one s m w e in
-      heard-whole (p .tiles) s (readOf s) (demand-2 .begun s m g) (omega (arith, one-step s m w e))
+      read-whole (p .tiles) s (readOf s) (demand-2 .begun s m g) (omega (arith, one-step s m w e))
       ∙ ap (λ (t : Bool). cond t 0 13)
       (ap (λ (l : Label). any (isTile l) (p .tiles)) (begun-label s m g)
       ∙ any-alike (p .tiles) (b .tiles) (isTile (labelOf (typeText (m .content)) (m .deviceName))) (carries m) refl
@@ -78,7 +78,7 @@ module _ (p : Panel) (b : Summary) (T : Agrees p b) where
   unfolding messageFault
   message-same R t s bs =
       ap₂ (λ (x y : ℕ). orElse x y) (ap (λ (k : ℕ). clockFault k t) (T .clock))
-      (ap₂ (λ (u : Bool) (y : ℕ). orElse (cond u 0 14) y) (T .up) (heard-same s (R .read s) bs (R .reads s bs)))
+      (ap₂ (λ (u : Bool) (y : ℕ). orElse (cond u 0 14) y) (T .up) (read-same s (R .read s) bs (R .reads s bs)))
 
   look-same : (i now : ℕ) → lookFault p i now ≡ orElse (cond (isThere (tileAt b i)) 0 19) (clockFault (b .clock) now)
   unfolding lookFault

@@ -30,8 +30,8 @@ use Rattle.history.proofs.Laws.Readings.{readers}
 use Rattle.panel.proofs.Laws.Contents.{bytesOf, PaddedValue, value-bytes, value-padded}
 use Rattle.panel.proofs.Laws.Calls.{look-refused, look-accepted}
 use Rattle.panel.proofs.Laws.Faults.{faultOn, acceptedBy, answer-refused, answer-accepted, refused-kept, panel-looked}
-use Rattle.panel.proofs.Laws.Agreement.{fresh-agrees, place-used, place-heard, place-hold}
-use Rattle.panel.proofs.Laws.History.{Kept, uncounted, heard}
+use Rattle.panel.proofs.Laws.Agreement.{fresh-agrees, place-used, place-uncounted, place-hold}
+use Rattle.panel.proofs.Laws.History.{Kept, uncounted, counted}
 use Rattle.panel.proofs.Laws.Checked.{clock-passed, next-free, fault-same}
 use Rattle.panel.proofs.Laws.Step.{Invariant, step}
 
@@ -43,7 +43,7 @@ fresh-invariant R =
     record {
       agrees = fresh-agrees;
       known = λ i k t m d. absurd (omega (arith, d .within));
-      kept = λ i. uncounted (place-heard (fresh-agrees .places i) (place-used (fresh-agrees .places i))) (λ k t m d. omega (arith, d .within));
+      kept = λ i. uncounted (place-uncounted (fresh-agrees .places i) (place-used (fresh-agrees .places i))) (λ k t m d. omega (arith, d .within));
     }
 
 panel-more : (cs : List Call) (c : Call) → panelAfter (cs ++ (c ∷ [])) ≡ panelNext (panelAfter cs) c
@@ -142,21 +142,21 @@ module _ (R : Reader) (cs : List Call) (i now : ℕ) where
 
   module _ (p : Panel) (x : Tile) (same-hold : x .«hold_time» ≡ holdTimeOf (tileAt (summaryOf R cs) i))
       (in-time : (k t : ℕ) (m : Message) → Counted R cs i k t m → t ≤ now) where
-    -- by whether a message was heard, came since the last accepted link call, and is no older than the hold time
+    -- by whether a message counted, came since the last accepted link call, and is no older than the hold time
     abbrev shownAs : Bool → Bool → Bool → Answer
     shownAs h s l = lookAnswer (cond h (cond (s && l) (Green (now - x .clock)) (Grey (now - x .clock))) Empty) (cond h (x .value) noValue)
 
     abbrev recent : Bool
     recent = leb (now - x .clock) (x .«hold_time»)
 
-    shown-as : (h s l : Bool) → x .heard ≡ h → x .«since_link» ≡ s → recent ≡ l
+    shown-as : (h s l : Bool) → x .counted ≡ h → x .«since_link» ≡ s → recent ≡ l
         → lookAnswer (lookedAt p x now .answer) (lookedAt p x now .value) ≡ shownAs h s l
     shown-as h s l e f g =
         ap (λ (y : Bool). shownAs y (x .«since_link») recent) e ∙ ap₂ (shownAs h) f g
 
     tile-shown : Kept R cs i x → Shown R cs i now (lookAnswer (lookedAt p x now .answer) (lookedAt p x now .value))
     tile-shown (uncounted h q) = subst (Shown R cs i now) (sym (shown-as false (x .«since_link») recent h refl refl)) (empty-shown q)
-    tile-shown (heard k m h d v f o u) =
+    tile-shown (counted k m h d v f o u) =
         let e : bytesOf (x .value) ≡ valueFor m = ap bytesOf v ∙ value-bytes (valueFor m) f in
         let late : x .clock ≤ now = in-time k (x .clock) m d in
         let last = at-last k (x .clock) m (x .«hold_time») same-hold d late o in
@@ -205,7 +205,7 @@ module _ (R : Reader) (cs : List Call) (p : Panel) (G : Invariant R cs p) where
 
   tile-padded : (x : Tile) (i now : ℕ) → Kept R cs i x → PaddedValue (lookedAt p x now .value)
   tile-padded x i now (uncounted h q) = subst PaddedValue (sym (ap (λ (t : Bool). cond t (x .value) noValue) h)) (value-padded [] (omega arith))
-  tile-padded x i now (heard k m h d v f o u) =
+  tile-padded x i now (counted k m h d v f o u) =
       subst PaddedValue (sym (ap (λ (t : Bool). cond t (x .value) noValue) h ∙ v)) (value-padded (valueFor m) f)
 
   look-padded : (i now : ℕ) → PaddedValue (lookOf p i now .value)
@@ -221,7 +221,7 @@ module _ (p : Panel) (i now : ℕ) where
   Blank r = (IsColoured (lookAnswer (r .answer) (r .value)) → ⊥) → r .value .len ≡ 0
 
   tile-blank : (x : Tile) → Blank (lookedAt p x now)
-  tile-blank x = blank (x .heard) (x .«since_link» && leb (now - x .clock) (x .«hold_time»)) (now - x .clock) (x .value)
+  tile-blank x = blank (x .counted) (x .«since_link» && leb (now - x .clock) (x .«hold_time»)) (now - x .clock) (x .value)
     where
       blank : (h c : Bool) (a : ℕ) (v : Value) → Blank (record { panel = p; answer = cond h (cond c (Green a) (Grey a)) Empty; value = cond h v noValue })
       blank false c a v g = refl

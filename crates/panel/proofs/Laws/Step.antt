@@ -28,7 +28,7 @@ use Rattle.history.specs.History.{CountsFor, Counted, LinkCall, NoneCounted}
 use Rattle.panel.specs.declared.Label.{Label}
 use Rattle.panel.specs.declared.Tile.{Tile}
 use Rattle.panel.specs.declared.Panel.{Panel}
-use Rattle.panel.specs.Tiles.{labelOf, noTile, newTile, isTile, relinked, heardBy, freeIn}
+use Rattle.panel.specs.Tiles.{labelOf, noTile, newTile, isTile, relinked, countedFor, freeIn}
 use Rattle.panel.specs.Calls.{labelIn, valueIn, entered, linked, received}
 use Rattle.panel.specs.Demand3.{panelNext}
 use Rattle.fields.proofs.Laws.Tests.{by-test, by-zero, true-false, cond-cases}
@@ -36,9 +36,9 @@ use Rattle.history.proofs.Laws.Readings.{begins-one, none-number}
 use Rattle.panel.proofs.Laws.Labels.{IsPose, allowed}
 use Rattle.panel.proofs.Laws.Contents.{pose-short}
 use Rattle.panel.proofs.Laws.Faults.{faultOn, changedBy, panel-refused, panel-changed}
-use Rattle.panel.proofs.Laws.Agreement.{PlaceAgrees, vacant, taken, Agrees, place-heard, place-is, free-unused, tile-more}
+use Rattle.panel.proofs.Laws.Agreement.{PlaceAgrees, vacant, taken, Agrees, place-uncounted, place-is, free-unused, tile-more}
 use Rattle.history.proofs.Laws.Longer.{summary-more, longer, counted-cases}
-use Rattle.panel.proofs.Laws.History.{Kept, uncounted, uncounted-of, keep, relink-kept, hear-kept}
+use Rattle.panel.proofs.Laws.History.{Kept, uncounted, uncounted-of, keep, relink-kept, count-kept}
 use Rattle.panel.proofs.Laws.Checked.{allowed-passed, clock-passed, begun-label, begun-value, next-free, fault-same}
 
 -- what is known of a panel after the calls cs
@@ -157,7 +157,7 @@ module _ (R : Reader) (cs : List Call) (p : Panel) (G : Invariant R cs p) where
         (cond-cases (Kept R (longer R cs call) i) (eqb i place) tile (getD (p .tiles) i noTile)
         (λ q.
         let f : getD (p .tiles) i noTile .used ≡ false = ap (λ (j : ℕ). getD (p .tiles) j noTile .used) (eqb-true i place q) ∙ free-unused (p .tiles) in
-        let o : NoneCounted R cs i = uncounted-of R cs i _ (place-heard (G .agrees .places i) f) (G .kept i) in
+        let o : NoneCounted R cs i = uncounted-of R cs i _ (place-uncounted (G .agrees .places i) f) (G .kept i) in
         uncounted refl (λ k u m d. ⊎-elim (o k u m) (λ w. no-count R b call refl i u m (w .1)) (counted-cases R cs call i k u m d)))
         (λ q. keep R cs call i _ (no-count R b call refl i) (λ l. l .link) (G .kept i)))
 
@@ -181,19 +181,19 @@ module _ (R : Reader) (cs : List Call) (p : Panel) (G : Invariant R cs p) where
     abbrev sent : Call
     sent = message t s
 
-    abbrev hearing : Tile → Tile
-    hearing = heardBy (labelIn s (readOf s)) t (valueIn s (readOf s))
+    abbrev counting : Tile → Tile
+    counting = countedFor (labelIn s (readOf s)) t (valueIn s (readOf s))
 
-    hear-place : {x : Tile} {q : Option Entry} → PlaceAgrees x q → PlaceAgrees (hearing x) q
-    hear-place {x} (vacant u g) =
+    count-place : {x : Tile} {q : Option Entry} → PlaceAgrees x q → PlaceAgrees (counting x) q
+    count-place {x} (vacant u g) =
         cond-cases (λ (y : Tile). PlaceAgrees y none) (isTile (labelIn s (readOf s)) x) _ x
         (λ v. true-false (x .used) (and-split (x .used) _ v .0) u)
         (λ v. vacant u g)
-    hear-place {x} (taken {e} u k g a) =
+    count-place {x} (taken {e} u k g a) =
         cond-cases (λ (y : Tile). PlaceAgrees y (some e)) (isTile (labelIn s (readOf s)) x) _ x (λ v. taken refl k g a) (λ v. taken u k g a)
 
-    heard-place-at : (i : ℕ) → PlaceAgrees (getD (map hearing (p .tiles)) i noTile) (tileIn (b .tiles) i)
-    heard-place-at i = at-map (λ x. PlaceAgrees x (tileIn (b .tiles) i)) hearing refl i (hear-place (G .agrees .places i))
+    counted-place-at : (i : ℕ) → PlaceAgrees (getD (map counting (p .tiles)) i noTile) (tileIn (b .tiles) i)
+    counted-place-at i = at-map (λ x. PlaceAgrees x (tileIn (b .tiles) i)) counting refl i (count-place (G .agrees .places i))
 
     -- the tile that a message carries
     carried-is : (m : Message) → Begins s m → (i : ℕ) → isTile (labelIn s (readOf s)) (getD (p .tiles) i noTile) ≡ passes (carries m) (tileAt b i)
@@ -201,15 +201,15 @@ module _ (R : Reader) (cs : List Call) (p : Panel) (G : Invariant R cs p) where
         ap (λ (l : Label). isTile l (getD (p .tiles) i noTile)) (begun-label s m g)
         ∙ place-is (typeText (m .content)) (m .deviceName) (g .well .texts) (G .agrees .places i)
 
-    kept-heard : (m : Message) → WellFormed m → encode m ≡ s → numberOn R b sent ≡ 0 → b .clock ≤ t
-        → (i : ℕ) → Kept R (longer R cs sent) i (hearing (getD (p .tiles) i noTile))
-    kept-heard m w e z h i =
+    kept-counted : (m : Message) → WellFormed m → encode m ≡ s → numberOn R b sent ≡ 0 → b .clock ≤ t
+        → (i : ℕ) → Kept R (longer R cs sent) i (counting (getD (p .tiles) i noTile))
+    kept-counted m w e z h i =
         let g : Begins s m = begins-one s m w e in
         let x : Tile = getD (p .tiles) i noTile in
         cond-cases (Kept R (longer R cs sent) i) (isTile (labelIn s (readOf s)) x) _ x
         (λ q.
         let f : passes (carries m) (tileAt b i) ≡ true = sym (carried-is m g i) ∙ q in
-        hear-kept R cs sent i t m _ refl refl (begun-value s m g)
+        count-kept R cs sent i t m _ refl refl (begun-value s m g)
         (pose-short (m .content) deepest (w .content) (carried-pose m (G .agrees .places i) f)) refl
         (record { well = w; is = ap (message t) (sym e); counts = z; carried = f })
         (λ j u n o. omega (arith, h, G .known i j u n o)))
@@ -243,12 +243,12 @@ module _ (R : Reader) (cs : List Call) (p : Panel) (G : Invariant R cs p) where
         let h : b .clock ≤ t = clock-passed (b .clock) t (y .0) in
         let m = one-of (R .read s) bs (R .reads s bs) (v .1) in
         let e = book-next sent z in
-        let size : length (map hearing (p .tiles)) ≡ 16 = length-map (p .tiles) hearing ∙ G .agrees .size in
+        let size : length (map counting (p .tiles)) ≡ 16 = length-map (p .tiles) counting ∙ G .agrees .size in
         record {
           agrees = subst (Agrees (received p t s (readOf s))) (sym e)
-              (record { clock = refl; up = sym (cond-pass (b .up) 13 0 (v .0) .0); size = size; places = heard-place-at });
+              (record { clock = refl; up = sym (cond-pass (b .up) 13 0 (v .0) .0); size = size; places = counted-place-at });
           known = known-next sent (noted R b sent) e h (λ i l o q. sent-clock l o (q .is));
-          kept = λ i. at-map (Kept R (longer R cs sent) i) hearing refl i (kept-heard (m .0) (m .1) (m .2) z h i);
+          kept = λ i. at-map (Kept R (longer R cs sent) i) counting refl i (kept-counted (m .0) (m .1) (m .2) z h i);
         }
       where
         sent-clock : (l : ℕ) (o : Message) → message t s ≡ message l (encode o) → l ≤ t
