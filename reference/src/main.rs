@@ -4,24 +4,10 @@
 //! From the root: `CARGO_TARGET_DIR=target/reference cargo run --manifest-path reference/Cargo.toml
 //! -- check .`, or `write .` to make the files again.
 
-mod content;
-mod crc;
-mod cursor;
-mod fault;
-mod listing;
-mod lookup;
-mod message;
-mod panel;
-mod random;
-mod script;
-mod text;
-mod vectors;
-mod writer;
-
+use reference::vectors::{self, VectorFile};
 use std::path::Path;
 use std::process::ExitCode;
 use std::{env, fs, io};
-use vectors::VectorFile;
 
 fn main() -> ExitCode {
     let words: Vec<String> = env::args().skip(1).collect();

@@ -1,0 +1,192 @@
+//! The functions that crate `exports` has for other languages. A slice goes over as a pointer and a
+//! length, and any bytes and numbers are allowed: none of the functions has a precondition.
+//!
+//! Each wrapper below is sound for the same reason, which its SAFETY comment names in short: a
+//! pointer and a length come from one slice, which is lent for the call. A slice without bytes has a
+//! pointer too, which is not null. The functions keep none of the pointers.
+
+use reference::message::Message;
+
+mod archive {
+    unsafe extern "C" {
+        pub fn kudireppa_crc64(bytes: *const u8, len: usize) -> u64;
+        pub fn kudireppa_content_number(
+            type_text: *const u8,
+            type_len: usize,
+            content: *const u8,
+            content_len: usize,
+        ) -> u8;
+        pub fn kudireppa_read(stream: *const u8, len: usize, number: *mut u8) -> usize;
+        pub fn kudireppa_read_fields(stream: *const u8, len: usize, out: *mut u8, out_len: usize);
+        #[allow(clippy::too_many_arguments)]
+        pub fn kudireppa_write(
+            version: u16,
+            time_stamp: u64,
+            id: u32,
+            type_text: *const u8,
+            type_len: usize,
+            device_name: *const u8,
+            name_len: usize,
+            further: *const u8,
+            further_len: usize,
+            content: *const u8,
+            content_len: usize,
+            metadata: *const u8,
+            metadata_len: usize,
+            out: *mut u8,
+            out_len: usize,
+            number: *mut u8,
+        ) -> usize;
+        pub fn kudireppa_answer_at(
+            script: *const u8,
+            len: usize,
+            place: usize,
+            out: *mut u8,
+            out_len: usize,
+        );
+        pub fn kudireppa_look_after(
+            script: *const u8,
+            len: usize,
+            tile: usize,
+            clock: u64,
+            out: *mut u8,
+            out_len: usize,
+        );
+    }
+}
+
+pub fn crc64(bytes: &[u8]) -> u64 {
+    // SAFETY: one slice, read.
+    unsafe { archive::kudireppa_crc64(bytes.as_ptr(), bytes.len()) }
+}
+
+pub fn content_number(type_text: &[u8], content: &[u8]) -> u8 {
+    // SAFETY: two slices, read.
+    unsafe {
+        archive::kudireppa_content_number(
+            type_text.as_ptr(),
+            type_text.len(),
+            content.as_ptr(),
+            content.len(),
+        )
+    }
+}
+
+/// The number and the step of the front of a stream.
+pub fn read(stream: &[u8]) -> (u8, usize) {
+    let mut number = 0;
+    // SAFETY: one slice, read; the number, written.
+    let step = unsafe { archive::kudireppa_read(stream.as_ptr(), stream.len(), &mut number) };
+    (number, step)
+}
+
+/// How many numbers the answer to the front of a stream has: number, step, version, lengths of type
+/// and device name, time stamp, id; place and length of the further bytes, the content and the
+/// metadata.
+pub const FIELDS: usize = 13;
+
+/// All numbers of the answer to the front of a stream.
+pub fn read_fields(stream: &[u8]) -> [u64; FIELDS] {
+    let mut out = [0; 8 * FIELDS];
+    // SAFETY: one slice, read; the array, written within its length.
+    unsafe {
+        archive::kudireppa_read_fields(stream.as_ptr(), stream.len(), out.as_mut_ptr(), out.len());
+    }
+    std::array::from_fn(|place| number_at(&out, 8 * place))
+}
+
+/// The number of the answer, and how many bytes were written to the front of the buffer.
+pub fn write(message: &Message, out: &mut [u8]) -> (u8, usize) {
+    let Message {
+        type_text,
+        device_name,
+        body,
+        ..
+    } = message;
+    let mut number = 0;
+    // SAFETY: five slices, read; a sixth, written within its length; the number, written. What is
+    // written is lent exclusively, so that none of them overlap.
+    let count = unsafe {
+        archive::kudireppa_write(
+            message.version,
+            message.time_stamp,
+            body.id,
+            type_text.as_ptr(),
+            type_text.len(),
+            device_name.as_ptr(),
+            device_name.len(),
+            body.further.as_ptr(),
+            body.further.len(),
+            body.content.as_ptr(),
+            body.content.len(),
+            body.metadata.as_ptr(),
+            body.metadata.len(),
+            out.as_mut_ptr(),
+            out.len(),
+            &mut number,
+        )
+    };
+    (number, count)
+}
+
+/// What a call on the panel answers.
+#[derive(Clone, Copy, Debug, PartialEq, Eq)]
+pub struct Answered {
+    /// 0 accepted, 1 added, 2 empty, 3 green, 4 grey, 5 refused, 6 no call at that place.
+    pub kind: u64,
+    /// The tile, the age, or the number of the refusal.
+    pub number: u64,
+    pub value_len: u64,
+    /// The value, and zeros after it.
+    pub value: [u8; 48],
+}
+
+const ANSWERED_LENGTH: usize = 72;
+
+/// What the call at a place of a script answers.
+pub fn answer_at(script: &[u8], place: usize) -> Answered {
+    let mut out = [0; ANSWERED_LENGTH];
+    // SAFETY: one slice, read; the array, written within its length.
+    unsafe {
+        archive::kudireppa_answer_at(
+            script.as_ptr(),
+            script.len(),
+            place,
+            out.as_mut_ptr(),
+            out.len(),
+        );
+    }
+    answered(&out)
+}
+
+/// What a look after all calls of a script shows.
+pub fn look_after(script: &[u8], tile: usize, clock: u64) -> Answered {
+    let mut out = [0; ANSWERED_LENGTH];
+    // SAFETY: one slice, read; the array, written within its length.
+    unsafe {
+        archive::kudireppa_look_after(
+            script.as_ptr(),
+            script.len(),
+            tile,
+            clock,
+            out.as_mut_ptr(),
+            out.len(),
+        );
+    }
+    answered(&out)
+}
+
+fn answered(out: &[u8; ANSWERED_LENGTH]) -> Answered {
+    Answered {
+        kind: number_at(out, 0),
+        number: number_at(out, 8),
+        value_len: number_at(out, 16),
+        value: std::array::from_fn(|place| out[24 + place]),
+    }
+}
+
+/// The big-endian number in eight bytes of an answer.
+fn number_at(out: &[u8], place: usize) -> u64 {
+    let bytes = std::array::from_fn(|byte| out[place + byte]);
+    u64::from_be_bytes(bytes)
+}

@@ -1,0 +1,16 @@
+//! The independent second implementation, written from the papers alone; it shares no code with the
+//! crates. It makes the vector files, and stands beside the proved library in `linked/`.
+
+pub mod content;
+pub mod crc;
+mod cursor;
+pub mod fault;
+mod listing;
+mod lookup;
+pub mod message;
+pub mod panel;
+pub mod random;
+pub mod script;
+mod text;
+pub mod vectors;
+pub mod writer;
