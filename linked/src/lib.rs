@@ -5,6 +5,9 @@
 //! pointer and a length come from one slice, which is lent for the call. A slice without bytes has a
 //! pointer too, which is not null. The functions keep none of the pointers.
 
+pub mod compare;
+pub mod inputs;
+
 use reference::message::Message;
 
 mod archive {
@@ -72,9 +75,13 @@ pub fn content_number(type_text: &[u8], content: &[u8]) -> u8 {
     }
 }
 
+/// What the outputs of a call hold before it: no answer has such numbers, so that one that is not
+/// written shows.
+const UNWRITTEN: u8 = 0xFF;
+
 /// The number and the step of the front of a stream.
 pub fn read(stream: &[u8]) -> (u8, usize) {
-    let mut number = 0;
+    let mut number = UNWRITTEN;
     // SAFETY: one slice, read; the number, written.
     let step = unsafe { archive::kudireppa_read(stream.as_ptr(), stream.len(), &mut number) };
     (number, step)
@@ -87,7 +94,7 @@ pub const FIELDS: usize = 13;
 
 /// All numbers of the answer to the front of a stream.
 pub fn read_fields(stream: &[u8]) -> [u64; FIELDS] {
-    let mut out = [0; 8 * FIELDS];
+    let mut out = [UNWRITTEN; 8 * FIELDS];
     // SAFETY: one slice, read; the array, written within its length.
     unsafe {
         archive::kudireppa_read_fields(stream.as_ptr(), stream.len(), out.as_mut_ptr(), out.len());
@@ -103,7 +110,7 @@ pub fn write(message: &Message, out: &mut [u8]) -> (u8, usize) {
         body,
         ..
     } = message;
-    let mut number = 0;
+    let mut number = UNWRITTEN;
     // SAFETY: five slices, read; a sixth, written within its length; the number, written. What is
     // written is lent exclusively, so that none of them overlap.
     let count = unsafe {
@@ -145,7 +152,7 @@ const ANSWERED_LENGTH: usize = 72;
 
 /// What the call at a place of a script answers.
 pub fn answer_at(script: &[u8], place: usize) -> Answered {
-    let mut out = [0; ANSWERED_LENGTH];
+    let mut out = [UNWRITTEN; ANSWERED_LENGTH];
     // SAFETY: one slice, read; the array, written within its length.
     unsafe {
         archive::kudireppa_answer_at(
@@ -161,7 +168,7 @@ pub fn answer_at(script: &[u8], place: usize) -> Answered {
 
 /// What a look after all calls of a script shows.
 pub fn look_after(script: &[u8], tile: usize, clock: u64) -> Answered {
-    let mut out = [0; ANSWERED_LENGTH];
+    let mut out = [UNWRITTEN; ANSWERED_LENGTH];
     // SAFETY: one slice, read; the array, written within its length.
     unsafe {
         archive::kudireppa_look_after(

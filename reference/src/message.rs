@@ -6,7 +6,7 @@ pub mod metadata;
 pub mod time_stamp;
 
 use crate::crc::crc;
-use crate::fault::{smallest, Fault};
+use crate::fault::{number, smallest, Fault};
 use body::Body;
 use header::Header;
 
@@ -105,6 +105,30 @@ impl Reading<'_> {
         let metadata = self.step - body.metadata.len();
         let content = metadata - body.content.len();
         [content - body.further.len(), content, metadata]
+    }
+
+    /// The answer's number and the step; the version, the lengths of the type and the device name,
+    /// the time stamp, the id; the place and the length of each of the three parts. All but the
+    /// first two are 0 where the message is refused.
+    pub fn numbers(&self) -> [u64; 13] {
+        let [further_at, content_at, metadata_at] = self.places();
+        let message = self.message.unwrap_or_default();
+        let body = message.body;
+        [
+            number(&self.message).into(),
+            self.step as u64,
+            message.version.into(),
+            message.type_text.len() as u64,
+            message.device_name.len() as u64,
+            message.time_stamp,
+            body.id.into(),
+            further_at as u64,
+            body.further.len() as u64,
+            content_at as u64,
+            body.content.len() as u64,
+            metadata_at as u64,
+            body.metadata.len() as u64,
+        ]
     }
 }
 

@@ -1,22 +1,22 @@
 //! The vector files: what the programs `vectors`, `listing` and `panel_scripts` are given, and what
 //! they must write.
 
-mod bundles;
-mod case;
+pub mod bundles;
+pub mod case;
 mod children;
-mod contents;
+pub mod contents;
 mod crc;
-mod headers;
-mod images;
-mod message_writers;
-mod messages;
-mod metadata;
+pub mod headers;
+pub mod images;
+pub mod message_writers;
+pub mod messages;
+pub mod metadata;
 mod out;
-mod patched;
-mod samples;
-mod scripts;
-mod streams;
-mod trees;
+pub mod patched;
+pub mod samples;
+pub mod scripts;
+pub mod streams;
+pub mod trees;
 mod writers;
 
 use crate::listing;

@@ -46,18 +46,22 @@ fn begun(sample: &Sample, out: Out, kind: char) -> Case {
 }
 
 /// The bytes that a sample takes; where it is refused, about as many as it would take.
-fn length(sample: &Sample) -> usize {
+pub fn length(sample: &Sample) -> usize {
     let sections = [&sample.further, &sample.content, &sample.metadata];
     let about = 70 + sections.iter().map(|section| section.len()).sum::<usize>();
     let bytes = sample.message().encode();
     bytes.map_or(about, |bytes| bytes.len())
 }
 
-/// Sound samples and each fault, alone and with those after it in the order, in every room.
+/// Each sample in every room.
 fn around_the_length() -> Vec<Case> {
-    let samples = [plain_samples(), extended_samples()].concat();
     let of_sample = |sample: &Sample| rooms(length(sample)).map(|out| written_case(sample, out));
-    samples.iter().flat_map(of_sample).collect()
+    samples().iter().flat_map(of_sample).collect()
+}
+
+/// Sound samples and each fault, alone and with those after it in the order.
+pub fn samples() -> Vec<Sample> {
+    [plain_samples(), extended_samples()].concat()
 }
 
 fn changed<const N: usize>(sample: &Sample, changes: [fn(&mut Sample); N]) -> Vec<Sample> {

@@ -38,25 +38,16 @@ pub fn cases() -> Vec<Case> {
 
 fn message_case(stream: &[u8]) -> Case {
     let reading = read(stream);
-    let [further_at, content_at, metadata_at] = reading.places();
-    let message = reading.message.unwrap_or_default();
+    let numbers = reading.numbers();
     let Message {
         type_text,
         device_name,
         body,
         ..
-    } = message;
+    } = reading.message.unwrap_or_default();
     Case::of_kind('R')
         .given(stream)
-        .number(number(&reading.message))
-        .number(reading.step)
-        .number(message.version)
-        .numbers([type_text.len(), device_name.len()])
-        .number(message.time_stamp)
-        .number(body.id)
-        .numbers([further_at, body.further.len()])
-        .numbers([content_at, body.content.len()])
-        .numbers([metadata_at, body.metadata.len()])
+        .numbers(numbers)
         .bytes(type_text)
         .bytes(device_name)
         .bytes(body.further)

@@ -149,7 +149,7 @@ impl Fields {
         let numbers = [
             self.time_stamp,
             self.body_size.unwrap_or(body.len() as u64),
-            self.crc.unwrap_or(crc(&body)),
+            self.crc.unwrap_or_else(|| crc(&body)),
         ];
         [
             &self.version.to_be_bytes()[..],

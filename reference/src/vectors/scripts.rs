@@ -1,9 +1,9 @@
 //! Scripts for the program `panel_scripts`: calls on a fresh panel, then a look at every tile.
 
-mod calls;
-mod chances;
+pub mod calls;
+pub mod chances;
 mod colours;
-mod encodings;
+pub mod encodings;
 mod links;
 mod refusals;
 mod sizes;
@@ -16,8 +16,8 @@ use crate::script::{decode, encode};
 /// A script, and the clock of the looks after it.
 #[derive(Clone)]
 pub struct Script {
-    bytes: Vec<u8>,
-    clock: u64,
+    pub bytes: Vec<u8>,
+    pub clock: u64,
 }
 
 pub fn scripts() -> Vec<Script> {

@@ -28,12 +28,17 @@ const NAMES: [&[u8]; 9] = [
 pub fn scripts() -> Vec<Script> {
     let mut random = Random::new(SEED);
     let others = other_messages();
-    let scripts = (0..CHANCES).map(|_| Chooser::new(&mut random, &others).script());
+    let scripts = (0..CHANCES).map(|_| by_chance(&mut random, &others));
     scripts.collect()
 }
 
+/// One script, with these among the messages that no tile shows.
+pub fn by_chance(random: &mut Random, others: &[Vec<u8>]) -> Script {
+    Chooser::new(random, others).script()
+}
+
 /// Messages that no tile shows: one for each number of the reader, and sound ones of other types.
-fn other_messages() -> Vec<Vec<u8>> {
+pub fn other_messages() -> Vec<Vec<u8>> {
     let sound = [
         Sample::plain(b"IMAGE", &images::p9().bytes()),
         Sample::plain(b"BIND", &bundles::mixed()),

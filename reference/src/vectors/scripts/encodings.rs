@@ -99,7 +99,8 @@ fn any_bytes() -> Vec<Vec<u8>> {
     lengths.into_iter().flat_map(of_length).collect()
 }
 
-fn short_call(random: &mut Random) -> Fields {
+/// A call of a few bytes, often one that is refused.
+pub fn short_call(random: &mut Random) -> Fields {
     let [kind, first, second] = [6, 4, 4].map(|bound| random.below(bound));
     let [clock, number] = [3, 2].map(|bound| random.below(bound) as u64);
     let texts = [POSITION, b"A", b"", NEEDLE];

@@ -1,0 +1,273 @@
+//! differential [--no-long] [COUNT [SEED]]: gives COUNT inputs, and the long ones, to the proved
+//! library and to the reference implementation, and compares the answers. It prints how many of
+//! each kind were compared and what they were answered, or the first difference.
+//!
+//! differential --only NUMBER SEED: the input of this number alone, shown whole.
+
+#![forbid(unsafe_code)]
+
+use linked::compare::{compare, Difference, Label};
+use linked::inputs::long::{self, Long};
+use linked::inputs::{Input, Inputs};
+use std::collections::BTreeMap;
+use std::process::ExitCode;
+use std::sync::atomic::{AtomicU64, Ordering};
+use std::{env, thread};
+
+const COUNT: u64 = 1_000_000;
+const SEED: u64 = 1;
+
+/// How many inputs a thread takes at a time.
+const BATCH: u64 = 64;
+
+/// Of each part of an input, as many bytes are shown at a difference.
+const SHOWN: usize = 1000;
+
+fn main() -> ExitCode {
+    let words: Vec<String> = env::args().skip(1).collect();
+    let words: Vec<&str> = words.iter().map(String::as_str).collect();
+    let numbers = |words: &[&str]| {
+        let numbers = words.iter().map(|word| word.parse().ok());
+        numbers.collect::<Option<Vec<u64>>>()
+    };
+    let (long, rest) = match words[..] {
+        ["--only", ref rest @ ..] => return only(numbers(rest)),
+        ["--no-long", ref rest @ ..] => (Vec::new(), rest),
+        ref rest => (long::inputs(), rest),
+    };
+    match numbers(rest).as_deref() {
+        Some([]) => run(long, COUNT, SEED),
+        Some([count]) => run(long, *count, SEED),
+        Some([count, seed]) => run(long, *count, *seed),
+        _ => usage(),
+    }
+}
+
+fn usage() -> ExitCode {
+    eprintln!("usage: differential [--no-long] [COUNT [SEED]] | differential --only NUMBER SEED");
+    ExitCode::from(2)
+}
+
+/// One input whole, with both answers where they differ.
+fn only(numbers: Option<Vec<u64>>) -> ExitCode {
+    let Some([number, seed]) = numbers.as_deref() else {
+        return usage();
+    };
+    let (kind, input) = Inputs::new(*seed).input(*number);
+    println!("{kind}, input {number} of seed {seed}");
+    for line in input.shown(usize::MAX) {
+        println!("{line}");
+    }
+    match compare(&input) {
+        Ok(labels) => {
+            println!("no difference: {}", words(&labels, Label::to_string));
+            ExitCode::SUCCESS
+        }
+        Err(difference) => {
+            print_answers(&difference);
+            ExitCode::FAILURE
+        }
+    }
+}
+
+fn run(long: Vec<Long>, count: u64, seed: u64) -> ExitCode {
+    let run = Run {
+        items: long.len() as u64 + count,
+        long,
+        inputs: Inputs::new(seed),
+        next: AtomicU64::new(0),
+        first: AtomicU64::new(u64::MAX),
+    };
+    let results = run.on_threads();
+    let mut tallies = Tallies::default();
+    let mut found = Vec::new();
+    for (part, difference) in results {
+        tallies.add(part);
+        found.extend(difference);
+    }
+    match found.into_iter().min_by_key(|found| found.item) {
+        Some(found) => {
+            println!("difference at {}, seed {seed}", found.title);
+            found.shown.iter().for_each(|line| println!("{line}"));
+            print_answers(&found.difference);
+            ExitCode::FAILURE
+        }
+        None => {
+            tallies.print();
+            let long = run.long.len();
+            let answers = tallies.answers();
+            println!("{count} inputs and {long} long ones, {answers} answers, seed {seed}: no difference");
+            ExitCode::SUCCESS
+        }
+    }
+}
+
+fn print_answers(difference: &Difference) {
+    println!("differs: {}", difference.what);
+    println!("proved:    {}", difference.proved);
+    println!("reference: {}", difference.reference);
+}
+
+/// The inputs of one run, taken by several threads: the long ones first.
+struct Run {
+    long: Vec<Long>,
+    inputs: Inputs,
+    items: u64,
+    next: AtomicU64,
+    /// The first item known to be answered differently.
+    first: AtomicU64,
+}
+
+/// An input that was answered differently.
+struct Found {
+    item: u64,
+    title: String,
+    shown: Vec<String>,
+    difference: Difference,
+}
+
+impl Run {
+    fn on_threads(&self) -> Vec<(Tallies, Option<Found>)> {
+        let count = thread::available_parallelism().map_or(1, usize::from);
+        thread::scope(|scope| {
+            let threads: Vec<_> = (0..count).map(|_| scope.spawn(|| self.work())).collect();
+            let results = threads.into_iter().map(|thread| thread.join());
+            results.map(|result| result.expect("no panic")).collect()
+        })
+    }
+
+    /// Takes items until none is left, or until one before it was found to differ, so that the same
+    /// one is reported whichever thread was faster.
+    fn work(&self) -> (Tallies, Option<Found>) {
+        let mut tallies = Tallies::default();
+        loop {
+            let batch = self.batch();
+            if batch.is_empty() {
+                return (tallies, None);
+            }
+            for item in batch {
+                if let Err(found) = self.compare(item, &mut tallies) {
+                    self.first.fetch_min(item, Ordering::Relaxed);
+                    return (tallies, Some(found));
+                }
+            }
+        }
+    }
+
+    /// The next items, long ones one by one.
+    fn batch(&self) -> std::ops::Range<u64> {
+        let long = self.long.len() as u64;
+        let end = |start: u64| match start < long {
+            true => start + 1,
+            false => start + BATCH,
+        };
+        let limit = self.items.min(self.first.load(Ordering::Relaxed));
+        let take = |start| (start < limit).then(|| end(start));
+        let taken = self
+            .next
+            .fetch_update(Ordering::Relaxed, Ordering::Relaxed, take);
+        match taken {
+            Ok(start) => start..end(start).min(self.items),
+            Err(_) => 0..0,
+        }
+    }
+
+    fn compare(&self, item: u64, tallies: &mut Tallies) -> Result<(), Found> {
+        let (kind, title, input) = self.input(item);
+        match compare(&input) {
+            Ok(labels) => {
+                tallies.count(kind, &labels);
+                Ok(())
+            }
+            Err(difference) => Err(Found {
+                item,
+                title: format!("{kind}, {title}"),
+                shown: input.shown(SHOWN),
+                difference,
+            }),
+        }
+    }
+
+    fn input(&self, item: u64) -> (&'static str, String, Input) {
+        let long = self.long.len() as u64;
+        match item.checked_sub(long) {
+            Some(number) => {
+                let (kind, input) = self.inputs.input(number);
+                (kind, format!("input {number}"), input)
+            }
+            None => {
+                let Long { kind, name, make } = &self.long[item as usize];
+                (kind, (*name).to_string(), make())
+            }
+        }
+    }
+}
+
+/// How many inputs were compared, and how often each answer was given.
+#[derive(Default)]
+struct Tally {
+    inputs: u64,
+    answers: BTreeMap<Label, u64>,
+}
+
+impl Tally {
+    fn add(&mut self, other: &Tally) {
+        self.inputs += other.inputs;
+        for (label, count) in &other.answers {
+            *self.answers.entry(*label).or_default() += count;
+        }
+    }
+
+    fn line(&self, name: &str) -> String {
+        let answers: Vec<_> = self.answers.iter().collect();
+        let answers = words(&answers, |(label, count)| format!("{label}: {count}"));
+        format!("{name:<30} {:>8}  {answers}", self.inputs)
+    }
+}
+
+/// The tallies by kind.
+#[derive(Default)]
+struct Tallies {
+    kinds: BTreeMap<&'static str, Tally>,
+}
+
+impl Tallies {
+    fn count(&mut self, kind: &'static str, labels: &[Label]) {
+        let tally = self.kinds.entry(kind).or_default();
+        tally.inputs += 1;
+        for label in labels {
+            *tally.answers.entry(*label).or_default() += 1;
+        }
+    }
+
+    fn add(&mut self, other: Tallies) {
+        for (kind, tally) in other.kinds {
+            self.kinds.entry(kind).or_default().add(&tally);
+        }
+    }
+
+    /// A line for each kind, and one for all kinds of each part of the library.
+    fn print(&self) {
+        println!("{:<30} {:>8}  answers", "kind", "inputs");
+        let mut parts: BTreeMap<&str, Tally> = BTreeMap::new();
+        for (kind, tally) in &self.kinds {
+            println!("{}", tally.line(kind));
+            let part = kind.split(':').next().expect("a first part");
+            parts.entry(part).or_default().add(tally);
+        }
+        println!("in all");
+        for (part, tally) in parts {
+            println!("{}", tally.line(part));
+        }
+    }
+
+    fn answers(&self) -> u64 {
+        let tallies = self.kinds.values();
+        tallies.flat_map(|tally| tally.answers.values()).sum()
+    }
+}
+
+fn words<T>(items: &[T], word: impl Fn(&T) -> String) -> String {
+    let words: Vec<String> = items.iter().map(word).collect();
+    words.join(", ")
+}

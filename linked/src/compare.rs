@@ -1,0 +1,218 @@
+//! One input given to the proved library and to the reference implementation.
+
+#![forbid(unsafe_code)]
+
+use crate::inputs::Input;
+use crate::Answered;
+use reference::content::parse;
+use reference::crc::crc;
+use reference::fault::number;
+use reference::message::read;
+use reference::panel::{Answer, Call, History};
+use reference::script::decode;
+use reference::vectors::samples::Sample;
+use reference::vectors::scripts::Script;
+use reference::writer::write_message;
+use std::fmt::{self, Debug, Display, Formatter};
+
+/// An answer without what goes with it, to be counted.
+#[derive(Clone, Copy, Debug, PartialEq, Eq, PartialOrd, Ord)]
+pub enum Label {
+    /// Document 01's number.
+    Number(u8),
+    /// Which answer of the panel that is no refusal.
+    Panel(&'static str),
+}
+
+impl Display for Label {
+    fn fmt(&self, formatter: &mut Formatter) -> fmt::Result {
+        match self {
+            Label::Number(number) => write!(formatter, "{number}"),
+            Label::Panel(word) => formatter.write_str(word),
+        }
+    }
+}
+
+/// What differs, and both answers.
+#[derive(Debug)]
+pub struct Difference {
+    pub what: String,
+    pub proved: String,
+    pub reference: String,
+}
+
+/// The answers, or the first that is not the same from both.
+pub fn compare(input: &Input) -> Result<Vec<Label>, Difference> {
+    match input {
+        Input::Bytes(bytes) => compare_crc(bytes).map(|()| Vec::new()),
+        Input::Front(stream) => compare_front(stream, 0).map(|(label, _)| vec![label]),
+        Input::Stream(stream) => compare_stream(stream),
+        Input::Content { type_text, content } => compare_content(type_text, content),
+        Input::Message {
+            sample,
+            room,
+            first,
+        } => compare_written(sample, *room, *first),
+        Input::Script {
+            script,
+            places,
+            tiles,
+        } => compare_script(script, places, tiles),
+    }
+}
+
+fn same<T: PartialEq + Debug>(
+    what: impl Display,
+    proved: T,
+    reference: T,
+) -> Result<T, Difference> {
+    if proved == reference {
+        return Ok(reference);
+    }
+    Err(Difference {
+        what: what.to_string(),
+        proved: format!("{proved:?}"),
+        reference: format!("{reference:?}"),
+    })
+}
+
+fn compare_crc(bytes: &[u8]) -> Result<(), Difference> {
+    same("the CRC", crate::crc64(bytes), crc(bytes)).map(|_| ())
+}
+
+/// The answer to the stream from a place on, and the step.
+fn compare_front(stream: &[u8], at: usize) -> Result<(Label, usize), Difference> {
+    let stream = &stream[at..];
+    let reading = read(stream);
+    let answer = number(&reading.message);
+    let brief = (answer, reading.step);
+    let of_read = format_args!("number and step at {at}");
+    same(of_read, crate::read(stream), brief)?;
+    let of_fields = format_args!("the thirteen numbers at {at}");
+    same(of_fields, crate::read_fields(stream), reading.numbers())?;
+    Ok((Label::Number(answer), reading.step))
+}
+
+/// The answers up to the first step of 0.
+fn compare_stream(stream: &[u8]) -> Result<Vec<Label>, Difference> {
+    let mut labels = Vec::new();
+    let mut at = 0;
+    loop {
+        let (label, step) = compare_front(stream, at)?;
+        labels.push(label);
+        if step == 0 {
+            return Ok(labels);
+        }
+        at += step;
+    }
+}
+
+fn compare_content(type_text: &[u8], content: &[u8]) -> Result<Vec<Label>, Difference> {
+    let answer = number(&parse(type_text, content));
+    let proved = crate::content_number(type_text, content);
+    same("the content's number", proved, answer)?;
+    Ok(vec![Label::Number(answer)])
+}
+
+/// The answer, and the whole buffer after it.
+fn compare_written(sample: &Sample, room: usize, first: u8) -> Result<Vec<Label>, Difference> {
+    let message = sample.message();
+    let mut buffer: Vec<u8> = (0..=255).cycle().skip(first.into()).take(room).collect();
+    let mut proved_buffer = buffer.clone();
+    let written = write_message(&message, &mut buffer);
+    let answer = (number(&written), written.unwrap_or(0));
+    let proved = crate::write(&message, &mut proved_buffer);
+    same("number and count", proved, answer)?;
+    same_buffer(&proved_buffer, &buffer)?;
+    Ok(vec![Label::Number(answer.0)])
+}
+
+fn same_buffer(proved: &[u8], reference: &[u8]) -> Result<(), Difference> {
+    let mut pairs = proved.iter().zip(reference);
+    match pairs.position(|(proved, reference)| proved != reference) {
+        Some(place) => {
+            let what = format!("the buffer afterwards, at byte {place}");
+            same(what, proved[place], reference[place]).map(|_| ())
+        }
+        None => Ok(()),
+    }
+}
+
+fn compare_script(
+    script: &Script,
+    places: &[usize],
+    tiles: &[usize],
+) -> Result<Vec<Label>, Difference> {
+    let calls = decode(&script.bytes);
+    let history = History::of(&calls);
+    let answers: Vec<&Answer> = history.answers().collect();
+    let mut labels = Vec::new();
+    for &place in places {
+        let answered = answers
+            .get(place)
+            .map_or(no_call(), |answer| expected(answer));
+        let what = format_args!("the answer at place {place}");
+        same(what, crate::answer_at(&script.bytes, place), answered)?;
+        labels.push(label(&answered));
+    }
+    for &tile in tiles {
+        let clock = script.clock;
+        let look = Call::Look {
+            tile: tile as u64,
+            clock,
+        };
+        let answered = expected(&history.answer(&look));
+        let what = format_args!("a look at tile {tile}, clock {clock}, after the script");
+        same(
+            what,
+            crate::look_after(&script.bytes, tile, clock),
+            answered,
+        )?;
+        labels.push(label(&answered));
+    }
+    Ok(labels)
+}
+
+/// What the panel's answers are called, by the numbers that the proved library gives them.
+const WORDS: [&str; 7] = [
+    "accepted", "added", "empty", "green", "grey", "refused", "no call",
+];
+
+fn label(answered: &Answered) -> Label {
+    match answered {
+        Answered {
+            kind: 5, number, ..
+        } => Label::Number(u8::try_from(*number).expect("a number of document 01")),
+        Answered { kind, .. } => Label::Panel(WORDS[*kind as usize]),
+    }
+}
+
+fn no_call() -> Answered {
+    without_value(6, 0)
+}
+
+fn without_value(kind: u64, number: u64) -> Answered {
+    with_value(kind, number, &[])
+}
+
+/// Values have up to 48 bytes; zeros follow them.
+fn with_value(kind: u64, number: u64, value: &[u8]) -> Answered {
+    Answered {
+        kind,
+        number,
+        value_len: value.len() as u64,
+        value: std::array::from_fn(|place| value.get(place).copied().unwrap_or(0)),
+    }
+}
+
+/// What the proved library gives for this answer.
+fn expected(answer: &Answer) -> Answered {
+    match answer {
+        Answer::Accepted => without_value(0, 0),
+        Answer::Added(tile) => without_value(1, *tile as u64),
+        Answer::Empty => without_value(2, 0),
+        Answer::Green { age, value } => with_value(3, *age, value),
+        Answer::Grey { age, value } => with_value(4, *age, value),
+        Answer::Refused(fault) => without_value(5, *fault as u64),
+    }
+}

@@ -1,0 +1,136 @@
+//! Inputs for the comparison. Each is made from a seed and its number alone; what it is answered
+//! has no part in its making.
+
+#![forbid(unsafe_code)]
+
+mod contents;
+mod damage;
+pub mod long;
+mod messages;
+mod scripts;
+mod shown;
+mod stock;
+mod writes;
+
+use reference::random::Random;
+use reference::vectors::samples::Sample;
+use reference::vectors::scripts::Script;
+use stock::Stock;
+
+/// What one comparison gives to both.
+pub enum Input {
+    /// To the CRC.
+    Bytes(Vec<u8>),
+    /// To the reader, which answers for the front.
+    Front(Vec<u8>),
+    /// To the reader, message after message.
+    Stream(Vec<u8>),
+    /// To the judge of contents.
+    Content {
+        type_text: Vec<u8>,
+        content: Vec<u8>,
+    },
+    /// To the writer, with a buffer of so many bytes, which count up from the first one.
+    Message {
+        sample: Sample,
+        room: usize,
+        first: u8,
+    },
+    /// To the panel: the answers at these places, and looks at these tiles afterwards.
+    Script {
+        script: Script,
+        places: Vec<usize>,
+        tiles: Vec<usize>,
+    },
+}
+
+/// A way of making inputs, and how many it makes of each hundred.
+struct Kind {
+    name: &'static str,
+    share: usize,
+    make: fn(&mut Random, &Stock) -> Input,
+}
+
+const fn kind(name: &'static str, share: usize, make: fn(&mut Random, &Stock) -> Input) -> Kind {
+    Kind { name, share, make }
+}
+
+/// The shares sum to a hundred.
+const KINDS: [Kind; 16] = [
+    kind("CRC: any bytes", 6, any_bytes),
+    kind("reader: any bytes", 6, messages::any_bytes),
+    kind("reader: any bytes as a body", 8, messages::any_body),
+    kind("reader: messages", 11, messages::whole),
+    kind("reader: messages with a fault", 13, messages::with_a_fault),
+    kind("reader: messages with two", 9, messages::with_two),
+    kind("reader: several messages", 5, messages::several),
+    kind("reader: captured messages", 8, messages::captured),
+    kind("contents: whole", 6, contents::whole),
+    kind("contents: with a fault", 9, contents::with_a_fault),
+    kind("writer: messages", 5, writes::messages),
+    kind("writer: with faults", 6, writes::with_faults),
+    kind("panel: calls", 3, scripts::calls),
+    kind("panel: calls damaged", 2, scripts::damaged),
+    kind("panel: many calls", 1, scripts::many_calls),
+    kind("panel: any bytes", 2, scripts::any_bytes),
+];
+
+/// All inputs of a seed.
+pub struct Inputs {
+    seed: u64,
+    stock: Stock,
+}
+
+impl Inputs {
+    pub fn new(seed: u64) -> Self {
+        let stock = Stock::new();
+        Inputs { seed, stock }
+    }
+
+    /// The name of the input's kind, and the input.
+    pub fn input(&self, number: u64) -> (&'static str, Input) {
+        let kind = kind_of(number);
+        let mut random = self.random(number);
+        (kind.name, (kind.make)(&mut random, &self.stock))
+    }
+
+    /// Words that have nothing to do with those of the numbers around it.
+    fn random(&self, number: u64) -> Random {
+        let of_seed = Random::new(self.seed).word();
+        Random::new(Random::new(of_seed ^ number).word())
+    }
+}
+
+/// The kinds take turns, so that a few inputs are of many kinds; 61 has no divisor with 100.
+fn kind_of(number: u64) -> &'static Kind {
+    let mut place = (number % 100 * 61 % 100) as usize;
+    for kind in &KINDS {
+        if place < kind.share {
+            return kind;
+        }
+        place -= kind.share;
+    }
+    unreachable!("the shares sum to a hundred")
+}
+
+/// Mostly short ones.
+fn any_bytes(random: &mut Random, _: &Stock) -> Input {
+    let most = random.pick(&[10, 100, 100, 100, 100, 100, 300, 1500]);
+    let length = random.below(most);
+    Input::Bytes(random.bytes(length))
+}
+
+/// Bytes of a few values that the rules speak of, so that some rule is often kept.
+fn few_values(random: &mut Random, length: usize) -> Vec<u8> {
+    let values = [0, 0, 0, 0, 1, 1, 2, 4, 12, b'A', 127, 128, 255];
+    (0..length).map(|_| random.pick(&values)).collect()
+}
+
+/// Bytes of any values, of a few values, or all the same.
+fn any_or_few(random: &mut Random, length: usize) -> Vec<u8> {
+    match random.below(4) {
+        0..=1 => random.bytes(length),
+        2 => few_values(random, length),
+        _ => vec![few_values(random, 1)[0]; length],
+    }
+}

@@ -1,0 +1,230 @@
+//! Messages and streams for the reader.
+
+use super::contents::{self, Typed};
+use super::damage::{add, change, edge, lengthen, number, resize, set};
+use super::stock::Stock;
+use super::{any_or_few, Input};
+use crate::crc64;
+use reference::random::Random;
+use reference::vectors::metadata;
+use reference::vectors::samples::Sample;
+use std::ops::Range;
+
+const HEADER: usize = 58;
+const BODY_SIZE: Range<usize> = 42..50;
+const CRC: Range<usize> = 50..58;
+const SECTION_SIZES: [Range<usize>; 2] = [58..60, 60..62];
+
+/// The largest body.
+pub const LIMIT: u64 = 16_777_216;
+
+pub fn any_bytes(random: &mut Random, _: &Stock) -> Input {
+    let length = random.pick(&[20, 57, 58, 59, 100, 200]) + random.below(9);
+    let mut stream = any_or_few(random, length);
+    // A small BODY_SIZE, so that now and then the whole is there.
+    if random.below(2) == 0 {
+        let size = random.below(100) as u64;
+        set(&mut stream, BODY_SIZE, size);
+    }
+    Input::Front(stream)
+}
+
+/// A sound header, and a body of any bytes that only a section's rule refuses.
+pub fn any_body(random: &mut Random, stock: &Stock) -> Input {
+    let length = random.below(70);
+    let body = any_or_few(random, length);
+    let type_text = contents::typed(random, stock).type_text;
+    let mut stream = Sample::plain(&type_text, &body).bytes();
+    stream[1] = random.pick(&[1, 2, 2, 2]);
+    // Half of the time an extended header that keeps its rule.
+    if random.below(2) == 0 {
+        let metadata_size = random.below(12) as u64;
+        set(&mut stream, 58..60, 12);
+        set(&mut stream, 60..62, metadata_size);
+        set(&mut stream, 66..70, 0);
+    }
+    mend(&mut stream);
+    Input::Front(stream)
+}
+
+/// Now and then with bytes of a next one.
+pub fn whole(random: &mut Random, stock: &Stock) -> Input {
+    let mut stream = sample(random, stock).bytes();
+    if random.below(8) == 0 {
+        lengthen(random, &mut stream);
+    }
+    Input::Front(stream)
+}
+
+pub fn with_a_fault(random: &mut Random, stock: &Stock) -> Input {
+    Input::Front(faulty(random, stock, 1))
+}
+
+pub fn with_two(random: &mut Random, stock: &Stock) -> Input {
+    Input::Front(faulty(random, stock, 2))
+}
+
+/// A few messages, some of them with a fault.
+pub fn several(random: &mut Random, stock: &Stock) -> Input {
+    let messages = (0..random.pick(&[2, 3, 4, 5])).map(|_| {
+        let faults = random.pick(&[0, 0, 1]);
+        faulty(random, stock, faults)
+    });
+    Input::Stream(messages.collect::<Vec<_>>().concat())
+}
+
+/// One that the released library wrote or, with a fault in them, a few.
+pub fn captured(random: &mut Random, stock: &Stock) -> Input {
+    let all = &stock.captured;
+    let first = random.below(all.len());
+    let mut stream = all[first].to_vec();
+    match random.below(8) {
+        0 => return Input::Front(stream),
+        1..=6 => {
+            stream_fault(random, &mut stream);
+            mend_by_chance(random, &mut stream);
+            Input::Front(stream)
+        }
+        _ => {
+            let last = all.len().min(first + 1 + random.below(5));
+            stream = all[first..last].concat();
+            stream_fault(random, &mut stream);
+            Input::Stream(stream)
+        }
+    }
+}
+
+/// What a message says: by chance, with contents and sections of more kinds now and then.
+pub fn sample(random: &mut Random, stock: &Stock) -> Sample {
+    let mut sample = Sample::by_chance(random);
+    if random.below(2) == 0 {
+        let Typed { type_text, content } = contents::typed(random, stock);
+        (sample.type_text, sample.content) = (type_text, content);
+    }
+    if sample.version == 2 && random.below(8) == 0 {
+        sample.metadata = stock.sections[random.below(stock.sections.len())].clone();
+    }
+    if sample.version == 2 && random.below(32) == 0 {
+        sample.metadata = many_entries(random);
+        sample.further = vec![edge(random); random.below(600)];
+    }
+    sample
+}
+
+fn many_entries(random: &mut Random) -> Vec<u8> {
+    let value = random.bytes(9);
+    let entries: Vec<(&[u8], &[u8])> = (0..random.below(50))
+        .map(|place| (&b"A key"[..1 + place % 5], &value[..place % 9]))
+        .collect();
+    metadata::section(&entries)
+}
+
+/// A message with so many faults in its sections or in its fields.
+fn faulty(random: &mut Random, stock: &Stock, faults: usize) -> Vec<u8> {
+    let mut sample = sample(random, stock);
+    let inner = random.below(faults + 1);
+    for _ in 0..inner {
+        sample_fault(random, &mut sample);
+    }
+    let mut stream = sample.bytes();
+    for _ in inner..faults {
+        stream_fault(random, &mut stream);
+    }
+    if faults > 0 {
+        mend_by_chance(random, &mut stream);
+    }
+    stream
+}
+
+/// A fault in the metadata or in the content.
+pub fn sample_fault(random: &mut Random, sample: &mut Sample) {
+    if sample.version == 2 && random.below(2) == 0 {
+        section_fault(random, &mut sample.metadata);
+        return;
+    }
+    let mut typed = Typed {
+        type_text: std::mem::take(&mut sample.type_text),
+        content: std::mem::take(&mut sample.content),
+    };
+    contents::damage(random, &mut typed);
+    (sample.type_text, sample.content) = (typed.type_text, typed.content);
+}
+
+fn section_fault(random: &mut Random, section: &mut Vec<u8>) {
+    if random.below(2) == 0 {
+        let entries = usize::try_from(number(section, 0..2)).expect("two bytes");
+        let keys = (0..entries.min(5)).map(|entry| 2 + 8 * entry..4 + 8 * entry);
+        let values = (0..entries.min(5)).map(|entry| 6 + 8 * entry..10 + 8 * entry);
+        let sizes: Vec<_> = keys.chain(values).chain([0..2]).collect();
+        resize(random, section, &sizes);
+    } else {
+        change(random, section);
+    }
+}
+
+/// A fault in the bytes of a message, in the header and its sizes more than elsewhere.
+fn stream_fault(random: &mut Random, stream: &mut Vec<u8>) {
+    let value = edge(random);
+    let place = match random.below(12) {
+        // V
+        0 => random.pick(&[0, 1, 1]),
+        // TYPE and DEVICE_NAME
+        1 => 2 + random.below(32),
+        // The reserved word
+        2 => 66 + random.below(4),
+        3..=4 => return set_body_size(random, stream),
+        5..=6 => return resize(random, stream, &SECTION_SIZES),
+        7..=8 => return change_length(random, stream),
+        9 => return add(stream, CRC, 1 << random.below(64)),
+        _ => return change(random, stream),
+    };
+    if let Some(byte) = stream.get_mut(place) {
+        *byte = value;
+    }
+}
+
+/// Around the true one, around the limit, and such that in fewer bits it is small.
+fn set_body_size(random: &mut Random, stream: &mut [u8]) {
+    let size = number(stream, BODY_SIZE);
+    let sizes = [
+        size.wrapping_sub(1),
+        size + 1,
+        size / 2,
+        0,
+        LIMIT,
+        LIMIT + 1,
+        1 << 32 | size,
+        1 << 63 | size,
+        u64::MAX,
+        u64::MAX - 57,
+        u64::MAX - 57 + size,
+        random.word(),
+    ];
+    set(stream, BODY_SIZE, random.pick(&sizes));
+}
+
+/// A body of another length, which BODY_SIZE follows.
+fn change_length(random: &mut Random, stream: &mut Vec<u8>) {
+    if stream.len() < HEADER {
+        return;
+    }
+    let mut body = stream.split_off(HEADER);
+    change(random, &mut body);
+    set(stream, BODY_SIZE, body.len() as u64);
+    stream.extend(body);
+}
+
+fn mend_by_chance(random: &mut Random, stream: &mut [u8]) {
+    if random.below(3) > 0 {
+        mend(stream);
+    }
+}
+
+/// Gives the message at the front the CRC of what is there of its body.
+pub fn mend(stream: &mut [u8]) {
+    let size = number(stream, BODY_SIZE);
+    let rest = stream.get(HEADER..).unwrap_or_default();
+    let length = usize::try_from(size).map_or(rest.len(), |size| size.min(rest.len()));
+    let crc = crc64(&rest[..length]);
+    set(stream, CRC, crc);
+}

@@ -1,0 +1,42 @@
+//! Samples that are not made by chance, put together once.
+
+use reference::vectors::samples::Sample;
+use reference::vectors::scripts::chances;
+use reference::vectors::{bundles, headers, images, message_writers, messages, metadata, streams};
+
+pub struct Stock {
+    /// Contents with their types, on both sides of each rule.
+    pub contents: Vec<(&'static [u8], Vec<u8>)>,
+    pub sections: Vec<Vec<u8>>,
+    /// Types and device names that can and cannot be written.
+    pub texts: Vec<[&'static [u8]; 2]>,
+    /// What a writer is given, sound or with a fault.
+    pub written: Vec<Sample>,
+    /// Messages for the panel that no tile shows.
+    pub others: Vec<Vec<u8>>,
+    /// The messages that the released library wrote.
+    pub captured: Vec<&'static [u8]>,
+}
+
+impl Stock {
+    pub fn new() -> Self {
+        let written = [message_writers::samples(), messages::contents()];
+        let captured = streams::CAPTURES.into_iter();
+        Stock {
+            contents: contents(),
+            sections: metadata::samples(),
+            texts: headers::texts_written(),
+            written: written.concat(),
+            others: chances::other_messages(),
+            captured: captured.flat_map(streams::messages).collect(),
+        }
+    }
+}
+
+fn contents() -> Vec<(&'static [u8], Vec<u8>)> {
+    let images = images::samples().into_iter();
+    let images = images.map(|image| (&b"IMAGE"[..], image.bytes()));
+    let binds = bundles::samples().into_iter();
+    let binds = binds.map(|bind| (&b"BIND"[..], bind));
+    images.chain(binds).collect()
+}
