@@ -20,15 +20,15 @@ use std::fmt::{self, Debug, Display, Formatter};
 pub enum Label {
     /// Document 01's number.
     Number(u8),
-    /// Which answer of the panel that is no refusal.
-    Panel(&'static str),
+    /// A CRC, or which answer of the panel that is no refusal.
+    Word(&'static str),
 }
 
 impl Display for Label {
     fn fmt(&self, formatter: &mut Formatter) -> fmt::Result {
         match self {
             Label::Number(number) => write!(formatter, "{number}"),
-            Label::Panel(word) => formatter.write_str(word),
+            Label::Word(word) => formatter.write_str(word),
         }
     }
 }
@@ -44,7 +44,7 @@ pub struct Difference {
 /// The answers, or the first that is not the same from both.
 pub fn compare(input: &Input) -> Result<Vec<Label>, Difference> {
     match input {
-        Input::Bytes(bytes) => compare_crc(bytes).map(|()| Vec::new()),
+        Input::Bytes(bytes) => compare_crc(bytes),
         Input::Front(stream) => compare_front(stream, 0).map(|(label, _)| vec![label]),
         Input::Stream(stream) => compare_stream(stream),
         Input::Content { type_text, content } => compare_content(type_text, content),
@@ -76,8 +76,9 @@ fn same<T: PartialEq + Debug>(
     })
 }
 
-fn compare_crc(bytes: &[u8]) -> Result<(), Difference> {
-    same("the CRC", crate::crc64(bytes), crc(bytes)).map(|_| ())
+fn compare_crc(bytes: &[u8]) -> Result<Vec<Label>, Difference> {
+    same("the CRC", crate::crc64(bytes), crc(bytes))?;
+    Ok(vec![Label::Word("CRC")])
 }
 
 /// The answer to the stream from a place on, and the step.
@@ -183,7 +184,7 @@ fn label(answered: &Answered) -> Label {
         Answered {
             kind: 5, number, ..
         } => Label::Number(u8::try_from(*number).expect("a number of document 01")),
-        Answered { kind, .. } => Label::Panel(WORDS[*kind as usize]),
+        Answered { kind, .. } => Label::Word(WORDS[*kind as usize]),
     }
 }
 

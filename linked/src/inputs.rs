@@ -44,6 +44,35 @@ pub enum Input {
     },
 }
 
+impl Input {
+    /// Without room for more bytes, so that a tool that watches memory sees a read past the end.
+    fn exact(mut self) -> Self {
+        match &mut self {
+            Input::Bytes(bytes) | Input::Front(bytes) | Input::Stream(bytes) => {
+                bytes.shrink_to_fit();
+            }
+            Input::Content { type_text, content } => {
+                type_text.shrink_to_fit();
+                content.shrink_to_fit();
+            }
+            Input::Message { sample, .. } => exact_sample(sample),
+            Input::Script { script, .. } => script.bytes.shrink_to_fit(),
+        }
+        self
+    }
+}
+
+fn exact_sample(sample: &mut Sample) {
+    let parts = [
+        &mut sample.type_text,
+        &mut sample.device_name,
+        &mut sample.further,
+        &mut sample.content,
+        &mut sample.metadata,
+    ];
+    parts.into_iter().for_each(Vec::shrink_to_fit);
+}
+
 /// A way of making inputs, and how many it makes of each hundred.
 struct Kind {
     name: &'static str,
@@ -55,25 +84,34 @@ const fn kind(name: &'static str, share: usize, make: fn(&mut Random, &Stock) ->
     Kind { name, share, make }
 }
 
-/// The shares sum to a hundred.
 const KINDS: [Kind; 16] = [
-    kind("CRC: any bytes", 6, any_bytes),
-    kind("reader: any bytes", 6, messages::any_bytes),
-    kind("reader: any bytes as a body", 8, messages::any_body),
-    kind("reader: messages", 11, messages::whole),
+    kind("CRC: any bytes", 5, any_bytes),
+    kind("reader: any bytes", 5, messages::any_bytes),
+    kind("reader: any bytes as a body", 7, messages::any_body),
+    kind("reader: messages", 10, messages::whole),
     kind("reader: messages with a fault", 13, messages::with_a_fault),
-    kind("reader: messages with two", 9, messages::with_two),
+    kind("reader: messages with two faults", 9, messages::with_two),
     kind("reader: several messages", 5, messages::several),
-    kind("reader: captured messages", 8, messages::captured),
+    kind("reader: captured messages", 7, messages::captured),
     kind("contents: whole", 6, contents::whole),
-    kind("contents: with a fault", 9, contents::with_a_fault),
+    kind("contents: with faults", 9, contents::with_faults),
     kind("writer: messages", 5, writes::messages),
     kind("writer: with faults", 6, writes::with_faults),
-    kind("panel: calls", 3, scripts::calls),
-    kind("panel: calls damaged", 2, scripts::damaged),
+    kind("panel: calls", 5, scripts::calls),
+    kind("panel: calls damaged", 4, scripts::damaged),
     kind("panel: many calls", 1, scripts::many_calls),
-    kind("panel: any bytes", 2, scripts::any_bytes),
+    kind("panel: any bytes", 3, scripts::any_bytes),
 ];
+
+const _: () = assert!(shares(KINDS.len()) == 100);
+
+/// The shares of the first kinds together.
+const fn shares(kinds: usize) -> usize {
+    match kinds {
+        0 => 0,
+        _ => shares(kinds - 1) + KINDS[kinds - 1].share,
+    }
+}
 
 /// All inputs of a seed.
 pub struct Inputs {
@@ -91,7 +129,8 @@ impl Inputs {
     pub fn input(&self, number: u64) -> (&'static str, Input) {
         let kind = kind_of(number);
         let mut random = self.random(number);
-        (kind.name, (kind.make)(&mut random, &self.stock))
+        let input = (kind.make)(&mut random, &self.stock);
+        (kind.name, input.exact())
     }
 
     /// Words that have nothing to do with those of the numbers around it.
@@ -101,16 +140,11 @@ impl Inputs {
     }
 }
 
-/// The kinds take turns, so that a few inputs are of many kinds; 61 has no divisor with 100.
+/// The kinds take turns, so that a few inputs are of many kinds: 61 has no divisor with 100.
 fn kind_of(number: u64) -> &'static Kind {
-    let mut place = (number % 100 * 61 % 100) as usize;
-    for kind in &KINDS {
-        if place < kind.share {
-            return kind;
-        }
-        place -= kind.share;
-    }
-    unreachable!("the shares sum to a hundred")
+    let turn = (number % 100 * 61 % 100) as usize;
+    let mut kinds = (0..KINDS.len()).filter(|&kind| turn < shares(kind + 1));
+    &KINDS[kinds.next().expect("the shares sum to a hundred")]
 }
 
 /// Mostly short ones.

@@ -7,6 +7,7 @@
 
 pub mod compare;
 pub mod inputs;
+pub mod tally;
 
 use reference::message::Message;
 

@@ -9,7 +9,7 @@
 use linked::compare::{compare, Difference, Label};
 use linked::inputs::long::{self, Long};
 use linked::inputs::{Input, Inputs};
-use std::collections::BTreeMap;
+use linked::tally::{words, Tallies};
 use std::process::ExitCode;
 use std::sync::atomic::{AtomicU64, Ordering};
 use std::{env, thread};
@@ -146,9 +146,10 @@ impl Run {
                 return (tallies, None);
             }
             for item in batch {
-                if let Err(found) = self.compare(item, &mut tallies) {
+                let found = self.difference(item, &mut tallies);
+                if found.is_some() {
                     self.first.fetch_min(item, Ordering::Relaxed);
-                    return (tallies, Some(found));
+                    return (tallies, found);
                 }
             }
         }
@@ -172,14 +173,14 @@ impl Run {
         }
     }
 
-    fn compare(&self, item: u64, tallies: &mut Tallies) -> Result<(), Found> {
+    fn difference(&self, item: u64, tallies: &mut Tallies) -> Option<Found> {
         let (kind, title, input) = self.input(item);
         match compare(&input) {
             Ok(labels) => {
                 tallies.count(kind, &labels);
-                Ok(())
+                None
             }
-            Err(difference) => Err(Found {
+            Err(difference) => Some(Found {
                 item,
                 title: format!("{kind}, {title}"),
                 shown: input.shown(SHOWN),
@@ -201,73 +202,4 @@ impl Run {
             }
         }
     }
-}
-
-/// How many inputs were compared, and how often each answer was given.
-#[derive(Default)]
-struct Tally {
-    inputs: u64,
-    answers: BTreeMap<Label, u64>,
-}
-
-impl Tally {
-    fn add(&mut self, other: &Tally) {
-        self.inputs += other.inputs;
-        for (label, count) in &other.answers {
-            *self.answers.entry(*label).or_default() += count;
-        }
-    }
-
-    fn line(&self, name: &str) -> String {
-        let answers: Vec<_> = self.answers.iter().collect();
-        let answers = words(&answers, |(label, count)| format!("{label}: {count}"));
-        format!("{name:<30} {:>8}  {answers}", self.inputs)
-    }
-}
-
-/// The tallies by kind.
-#[derive(Default)]
-struct Tallies {
-    kinds: BTreeMap<&'static str, Tally>,
-}
-
-impl Tallies {
-    fn count(&mut self, kind: &'static str, labels: &[Label]) {
-        let tally = self.kinds.entry(kind).or_default();
-        tally.inputs += 1;
-        for label in labels {
-            *tally.answers.entry(*label).or_default() += 1;
-        }
-    }
-
-    fn add(&mut self, other: Tallies) {
-        for (kind, tally) in other.kinds {
-            self.kinds.entry(kind).or_default().add(&tally);
-        }
-    }
-
-    /// A line for each kind, and one for all kinds of each part of the library.
-    fn print(&self) {
-        println!("{:<30} {:>8}  answers", "kind", "inputs");
-        let mut parts: BTreeMap<&str, Tally> = BTreeMap::new();
-        for (kind, tally) in &self.kinds {
-            println!("{}", tally.line(kind));
-            let part = kind.split(':').next().expect("a first part");
-            parts.entry(part).or_default().add(tally);
-        }
-        println!("in all");
-        for (part, tally) in parts {
-            println!("{}", tally.line(part));
-        }
-    }
-
-    fn answers(&self) -> u64 {
-        let tallies = self.kinds.values();
-        tallies.flat_map(|tally| tally.answers.values()).sum()
-    }
-}
-
-fn words<T>(items: &[T], word: impl Fn(&T) -> String) -> String {
-    let words: Vec<String> = items.iter().map(word).collect();
-    words.join(", ")
 }

@@ -27,12 +27,17 @@ impl Typed {
     }
 }
 
+/// Now and then of a type that only looks like one with a rule.
 pub fn whole(random: &mut Random, stock: &Stock) -> Input {
-    typed(random, stock).input()
+    let typed = match random.below(8) {
+        0 => stored(random, &stock.alike),
+        _ => typed(random, stock),
+    };
+    typed.input()
 }
 
 /// One fault or two; now and then judged by another type's rule.
-pub fn with_a_fault(random: &mut Random, stock: &Stock) -> Input {
+pub fn with_faults(random: &mut Random, stock: &Stock) -> Input {
     let mut typed = typed(random, stock);
     for _ in 0..random.pick(&[1, 1, 2]) {
         damage(random, &mut typed);
@@ -46,7 +51,7 @@ pub fn typed(random: &mut Random, stock: &Stock) -> Typed {
         0..=7 => child(random),
         8..=10 => Typed::new(b"BIND", trees::bind(random).encode()),
         11..=13 => Typed::new(b"IMAGE", image(random)),
-        14..=15 => stored(random, stock),
+        14..=15 => stored(random, &stock.contents),
         16..=17 => nested(random),
         18 => long(random),
         _ => any_content(random),
@@ -59,8 +64,8 @@ fn child(random: &mut Random) -> Typed {
     Typed::new(&child.type_text, child.content.encode())
 }
 
-fn stored(random: &mut Random, stock: &Stock) -> Typed {
-    let (type_text, content) = &stock.contents[random.below(stock.contents.len())];
+fn stored(random: &mut Random, contents: &[(Vec<u8>, Vec<u8>)]) -> Typed {
+    let (type_text, content) = &contents[random.below(contents.len())];
     Typed::new(type_text, content.clone())
 }
 

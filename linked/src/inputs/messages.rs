@@ -6,8 +6,8 @@ use super::stock::Stock;
 use super::{any_or_few, Input};
 use crate::crc64;
 use reference::random::Random;
-use reference::vectors::metadata;
 use reference::vectors::samples::Sample;
+use reference::vectors::{metadata, streams};
 use std::ops::Range;
 
 const HEADER: usize = 58;
@@ -73,25 +73,36 @@ pub fn several(random: &mut Random, stock: &Stock) -> Input {
     Input::Stream(messages.collect::<Vec<_>>().concat())
 }
 
-/// One that the released library wrote or, with a fault in them, a few.
+/// One that the released library wrote, mostly with a fault; a few in a row, or a whole stream of
+/// them, with a fault in some place.
 pub fn captured(random: &mut Random, stock: &Stock) -> Input {
     let all = &stock.captured;
     let first = random.below(all.len());
-    let mut stream = all[first].to_vec();
-    match random.below(8) {
-        0 => return Input::Front(stream),
-        1..=6 => {
+    match random.below(64) {
+        0 => Input::Stream(damaged_capture(random)),
+        1..=8 => {
+            let last = all.len().min(first + 1 + random.below(5));
+            let mut stream = all[first..last].concat();
+            stream_fault(random, &mut stream);
+            Input::Stream(stream)
+        }
+        9..=16 => Input::Front(all[first].to_vec()),
+        _ => {
+            let mut stream = all[first].to_vec();
             stream_fault(random, &mut stream);
             mend_by_chance(random, &mut stream);
             Input::Front(stream)
         }
-        _ => {
-            let last = all.len().min(first + 1 + random.below(5));
-            stream = all[first..last].concat();
-            stream_fault(random, &mut stream);
-            Input::Stream(stream)
-        }
     }
+}
+
+/// The shorter stream with up to nine changes.
+fn damaged_capture(random: &mut Random) -> Vec<u8> {
+    let mut stream = streams::CAPTURES[1].to_vec();
+    for _ in 0..random.below(10) {
+        change(random, &mut stream);
+    }
+    stream
 }
 
 /// What a message says: by chance, with contents and sections of more kinds now and then.
@@ -153,9 +164,10 @@ pub fn sample_fault(random: &mut Random, sample: &mut Sample) {
 fn section_fault(random: &mut Random, section: &mut Vec<u8>) {
     if random.below(2) == 0 {
         let entries = usize::try_from(number(section, 0..2)).expect("two bytes");
-        let keys = (0..entries.min(5)).map(|entry| 2 + 8 * entry..4 + 8 * entry);
-        let values = (0..entries.min(5)).map(|entry| 6 + 8 * entry..10 + 8 * entry);
-        let sizes: Vec<_> = keys.chain(values).chain([0..2]).collect();
+        let mut sizes = vec![0..2, 2..4];
+        for at in (2..).step_by(8).take(entries.min(5)) {
+            sizes.extend([at..at + 2, at + 4..at + 8]);
+        }
         resize(random, section, &sizes);
     } else {
         change(random, section);

@@ -2,11 +2,14 @@
 
 use reference::vectors::samples::Sample;
 use reference::vectors::scripts::chances;
-use reference::vectors::{bundles, headers, images, message_writers, messages, metadata, streams};
+use reference::vectors::{bundles, contents, headers, images};
+use reference::vectors::{message_writers, messages, metadata, streams};
 
 pub struct Stock {
-    /// Contents with their types, on both sides of each rule.
-    pub contents: Vec<(&'static [u8], Vec<u8>)>,
+    /// Types and contents, on both sides of each rule.
+    pub contents: Vec<(Vec<u8>, Vec<u8>)>,
+    /// Types with a rule and types that look like them, not all of which fit a field.
+    pub alike: Vec<(Vec<u8>, Vec<u8>)>,
     pub sections: Vec<Vec<u8>>,
     /// Types and device names that can and cannot be written.
     pub texts: Vec<[&'static [u8]; 2]>,
@@ -23,7 +26,8 @@ impl Stock {
         let written = [message_writers::samples(), messages::contents()];
         let captured = streams::CAPTURES.into_iter();
         Stock {
-            contents: contents(),
+            contents: ruled(),
+            alike: contents::exact_texts(),
             sections: metadata::samples(),
             texts: headers::texts_written(),
             written: written.concat(),
@@ -33,10 +37,10 @@ impl Stock {
     }
 }
 
-fn contents() -> Vec<(&'static [u8], Vec<u8>)> {
+fn ruled() -> Vec<(Vec<u8>, Vec<u8>)> {
     let images = images::samples().into_iter();
-    let images = images.map(|image| (&b"IMAGE"[..], image.bytes()));
+    let images = images.map(|image| (b"IMAGE".to_vec(), image.bytes()));
     let binds = bundles::samples().into_iter();
-    let binds = binds.map(|bind| (&b"BIND"[..], bind));
+    let binds = binds.map(|bind| (b"BIND".to_vec(), bind));
     images.chain(binds).collect()
 }

@@ -143,7 +143,7 @@ fn typed(random: &mut Random) -> Vec<(Vec<u8>, Vec<u8>)> {
 
 /// Types with a rule, and types that only look like them, over contents that break every rule or
 /// keep one.
-fn exact_texts() -> Vec<(Vec<u8>, Vec<u8>)> {
+pub fn exact_texts() -> Vec<(Vec<u8>, Vec<u8>)> {
     let ruled: [&[u8]; 4] = [b"TRANSFORM", b"POSITION", b"IMAGE", b"BIND"];
     let alike: [&[u8]; 14] = [
         b"",
