@@ -2,16 +2,14 @@
 
 #![forbid(unsafe_code)]
 
+mod panel;
+
 use crate::inputs::Input;
-use crate::Answered;
 use reference::content::parse;
 use reference::crc::crc;
 use reference::fault::number;
 use reference::message::read;
-use reference::panel::{Answer, Call, History};
-use reference::script::decode;
 use reference::vectors::samples::Sample;
-use reference::vectors::scripts::Script;
 use reference::writer::write_message;
 use std::fmt::{self, Debug, Display, Formatter};
 
@@ -57,7 +55,7 @@ pub fn compare(input: &Input) -> Result<Vec<Label>, Difference> {
             script,
             places,
             tiles,
-        } => compare_script(script, places, tiles),
+        } => panel::compare_script(script, places, tiles),
     }
 }
 
@@ -65,9 +63,9 @@ fn same<T: PartialEq + Debug>(
     what: impl Display,
     proved: T,
     reference: T,
-) -> Result<T, Difference> {
+) -> Result<(), Difference> {
     if proved == reference {
-        return Ok(reference);
+        return Ok(());
     }
     Err(Difference {
         what: what.to_string(),
@@ -133,87 +131,8 @@ fn same_buffer(proved: &[u8], reference: &[u8]) -> Result<(), Difference> {
     match pairs.position(|(proved, reference)| proved != reference) {
         Some(place) => {
             let what = format!("the buffer afterwards, at byte {place}");
-            same(what, proved[place], reference[place]).map(|_| ())
+            same(what, proved[place], reference[place])
         }
         None => Ok(()),
-    }
-}
-
-fn compare_script(
-    script: &Script,
-    places: &[usize],
-    tiles: &[usize],
-) -> Result<Vec<Label>, Difference> {
-    let calls = decode(&script.bytes);
-    let history = History::of(&calls);
-    let answers: Vec<&Answer> = history.answers().collect();
-    let mut labels = Vec::new();
-    for &place in places {
-        let answered = answers
-            .get(place)
-            .map_or(no_call(), |answer| expected(answer));
-        let what = format_args!("the answer at place {place}");
-        same(what, crate::answer_at(&script.bytes, place), answered)?;
-        labels.push(label(&answered));
-    }
-    for &tile in tiles {
-        let clock = script.clock;
-        let look = Call::Look {
-            tile: tile as u64,
-            clock,
-        };
-        let answered = expected(&history.answer(&look));
-        let what = format_args!("a look at tile {tile}, clock {clock}, after the script");
-        same(
-            what,
-            crate::look_after(&script.bytes, tile, clock),
-            answered,
-        )?;
-        labels.push(label(&answered));
-    }
-    Ok(labels)
-}
-
-/// What the panel's answers are called, by the numbers that the proved library gives them.
-const WORDS: [&str; 7] = [
-    "accepted", "added", "empty", "green", "grey", "refused", "no call",
-];
-
-fn label(answered: &Answered) -> Label {
-    match answered {
-        Answered {
-            kind: 5, number, ..
-        } => Label::Number(u8::try_from(*number).expect("a number of document 01")),
-        Answered { kind, .. } => Label::Word(WORDS[*kind as usize]),
-    }
-}
-
-fn no_call() -> Answered {
-    without_value(6, 0)
-}
-
-fn without_value(kind: u64, number: u64) -> Answered {
-    with_value(kind, number, &[])
-}
-
-/// Values have up to 48 bytes; zeros follow them.
-fn with_value(kind: u64, number: u64, value: &[u8]) -> Answered {
-    Answered {
-        kind,
-        number,
-        value_len: value.len() as u64,
-        value: std::array::from_fn(|place| value.get(place).copied().unwrap_or(0)),
-    }
-}
-
-/// What the proved library gives for this answer.
-fn expected(answer: &Answer) -> Answered {
-    match answer {
-        Answer::Accepted => without_value(0, 0),
-        Answer::Added(tile) => without_value(1, *tile as u64),
-        Answer::Empty => without_value(2, 0),
-        Answer::Green { age, value } => with_value(3, *age, value),
-        Answer::Grey { age, value } => with_value(4, *age, value),
-        Answer::Refused(fault) => without_value(5, *fault as u64),
     }
 }

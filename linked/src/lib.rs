@@ -12,6 +12,8 @@ pub mod tally;
 use reference::message::Message;
 
 mod archive {
+    // SAFETY: these are the signatures of `crates/exports/src/lib.rt`, where a slice is a pointer and
+    // a length, and a lent number a pointer.
     unsafe extern "C" {
         pub fn kudireppa_crc64(bytes: *const u8, len: usize) -> u64;
         pub fn kudireppa_content_number(
