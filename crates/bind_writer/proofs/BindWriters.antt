@@ -1,7 +1,7 @@
 -- What is proved of the writer of a BIND. Assumes nothing.
 use Prim.Native.Nat.{ℕ, _^_, _≤_, _<_}
 use mathlib.Core.Path.{_≡_, refl, sym, ap, subst, _∙_}
-use mathlib.Core.Bool.{Bool, true, false}
+use mathlib.Core.Bool.{true}
 use mathlib.Core.List.{List, [], _∷_, _++_}
 use native.Mathlib.Omega.{arith}
 use lib.Dec.{leb}
@@ -14,6 +14,7 @@ use Rattle.fields.specs.Checks.{orElse}
 use Rattle.fields.specs.Answer.{writtenNumber, writtenCount, roomFault}
 use Rattle.fields.specs.declared.Written.the-variants.{Wrote}
 use Rattle.fields.proofs.Laws.Checks.{and-split, and-join, else-zero}
+use Rattle.fields.proofs.Laws.Tests.{is-false}
 use Rattle.fields.proofs.Laws.Lists.{each-all}
 use Rattle.fields.proofs.Laws.Text.{is-text, text-is}
 use Rattle.fields.proofs.Laws.Answer.{written-wrote, written-number, room-enough, out-wrote, out-refused}
@@ -92,11 +93,7 @@ module _ (ts ns ds : List (List ℕ)) (room : ℕ) where
   number = written-number (writeFault ts ns ds room) _
 
   number-refused : SizesFit ds → (Writable ts ns ds → ⊥) → writtenNumber (bindWritten ts ns ds room) ≡ 10
-  number-refused s n = go (layoutGood ts ns ds) refl
-    where
-      go : (b : Bool) → layoutGood ts ns ds ≡ b → writtenNumber (bindWritten ts ns ds room) ≡ 10
-      go true e = absurd (n (lists-passed ts ns ds s e))
-      go false e = number ∙ by-lists ts ns ds room e
+  number-refused s n = number ∙ by-lists ts ns ds room (is-false (layoutGood ts ns ds) (λ e. n (lists-passed ts ns ds s e)))
 
   -- the reader's number for what would be written is the first fault of the children
   reader : WellBundle (children ts ns ds) → bindFault deepest (encodeChildren (children ts ns ds)) ≡ firstFault childFault (children ts ns ds)

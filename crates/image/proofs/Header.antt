@@ -9,8 +9,8 @@ use lib.Seq.{sets, drop-at}
 use Rattle.fields.specs.Bytes.{Bytes}
 use Rattle.fields.specs.Numbers.{beVal}
 use Rattle.fields.specs.Layout.{join, cut, Widths, stores, numbersAt, numberFields, NumbersFit}
-use Rattle.fields.proofs.Laws.Numbers.{length-beBytes, beAt-lt}
-use Rattle.fields.proofs.Laws.Layout.{length-join, join-cut, cut-join, numbers-back, numbers-front}
+use Rattle.fields.proofs.Laws.Numbers.{beAt-lt}
+use Rattle.fields.proofs.Laws.Layout.{length-join, join-cut, cut-join, widths-numbers, numbers-back, numbers-front}
 use Rattle.fields.proofs.Laws.Stores.{sets-append, stores-join}
 use Rattle.image.specs.declared.ImageHeader.{ImageHeader}
 use Rattle.image.specs.Image.{Image, three, headerNumbers, headerWidths, HeaderFits, headerOf, encodeImage, imageOfParts}
@@ -18,15 +18,7 @@ use Rattle.image.specs.Image.{Image, three, headerNumbers, headerWidths,
 abbrev pub headerBytes : ImageHeader → List ℕ
 headerBytes h = join (numberFields headerWidths (headerNumbers h))
 
--- ---- layouts of numbers: as many numbers as widths, and numbers read
-
-widths-of : (ws vs : List ℕ) → length ws ≡ length vs → Widths (numberFields ws vs) ws
-widths-of [] vs h = tt
-widths-of (w ∷ ws) [] h = absurd (let z : _≡_ {A = ℕ} (suc (length ws)) 0 = h in omega arith)
-widths-of (w ∷ ws) (v ∷ vs) h =
-    let k : length ws ≡ length vs = let z : _≡_ {A = ℕ} (suc (length ws)) (suc (length vs)) = h in omega arith in
-    (length-beBytes w v, widths-of ws vs k)
-
+-- the numbers that are read fit their widths
 numbers-fit : (at : ℕ) (ws s : List ℕ) → Bytes s → NumbersFit ws (numbersAt at ws s)
 numbers-fit at [] s b = tt
 numbers-fit at (w ∷ ws) s b = (beAt-lt w at s b, numbers-fit (at + w) ws s b)
@@ -34,7 +26,7 @@ numbers-fit at (w ∷ ws) s b = (beAt-lt w at s b, numbers-fit (at + w) ws s b)
 -- ---- a header's fields
 
 pub header-widths : (h : ImageHeader) → Widths (numberFields headerWidths (headerNumbers h)) headerWidths
-header-widths h = widths-of headerWidths (headerNumbers h) refl
+header-widths h = widths-numbers headerWidths (headerNumbers h) refl
 
 pub length-header : (h : ImageHeader) → length (headerBytes h) ≡ 72
 length-header h = length-join (numberFields headerWidths (headerNumbers h)) headerWidths (header-widths h)

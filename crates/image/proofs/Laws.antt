@@ -13,14 +13,13 @@ use Rattle.fields.specs.Bytes.{Bytes}
 use Rattle.fields.specs.Layout.{numberFields, stores}
 use Rattle.fields.specs.Checks.{orElse}
 use Rattle.fields.specs.Answer.{writtenNumber, roomFault}
-use Rattle.fields.proofs.Laws.Bytes.{bytes-append, bytes-drop}
-use Rattle.fields.proofs.Laws.Layout.{bytes-join, bytes-numbers}
+use Rattle.fields.proofs.Laws.Bytes.{bytes-drop}
 use Rattle.fields.proofs.Laws.Checks.{cond-pass, cond-refused, zero-else, else-zero}
 use Rattle.fields.proofs.Laws.Answer.{written-wrote, written-refused, written-number, room-enough, room-fits, out-wrote, out-refused, out-sets}
 use Rattle.image.specs.declared.ImageHeader.{ImageHeader}
 use Rattle.image.specs.declared.ImageRead.{ImageRead}
 use Rattle.image.specs.Image.{Image, HeaderFits, WellImage, encodeImage, headerWidths, headerNumbers, headerOk, ruleFault, headerOf, imageFault, noHeader, imageOf, pixelsOf, imageOfParts, writeFault, imageWritten, imageAfter, Images}
-use Rattle.image.proofs.Header.{headerBytes, length-image, stores-image, pixels-front, encode-parts, header-fits, header-front}
+use Rattle.image.proofs.Header.{length-image, stores-image, pixels-front, encode-parts, header-fits, header-front}
 use Rattle.image.proofs.Rule.{rule-holds, rule-passes, rule-kept}
 
 -- ---- the check
@@ -71,11 +70,6 @@ image-unique x y v w e =
     let h : x .header ≡ y .header = sym (header-front x (v .fits)) ∙ ap headerOf e ∙ header-front y (w .fits) in
     let p : x .pixels ≡ y .pixels = sym (pixels-front x) ∙ ap (drop 72) e ∙ pixels-front y in
     ap₂ imageOfParts h p
-
-pub bytes-encodeImage : (x : Image) → WellImage x → Bytes (encodeImage x)
-unfolding encodeImage
-bytes-encodeImage x w =
-    bytes-append (headerBytes (x .header)) (x .pixels) (bytes-join (numberFields headerWidths (headerNumbers (x .header))) (bytes-numbers headerWidths (headerNumbers (x .header)))) (w .bytes)
 
 -- ---- the reader
 

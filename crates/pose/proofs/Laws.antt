@@ -5,16 +5,16 @@ use mathlib.Core.Bool.{Bool, cond}
 use mathlib.Core.List.{List, [], _∷_, _++_, map, append-nil}
 use native.Mathlib.Omega.{arith}
 use lib.Dec.{eqb}
-use lib.ListN.{length, getD, take, replicate, length-append, length-take}
+use lib.ListN.{length, getD, take, replicate, length-take, length-replicate}
 use lib.Seq.{sets, take-all}
 use borrow.Author.Tests.{eqb-true, eqb-false, eq-eqb, ne-eqb}
 use Rattle.fields.specs.Bytes.{Bytes}
 use Rattle.fields.specs.Lists.{flat}
 use Rattle.fields.specs.Numbers.{beVal, beBytes}
 use Rattle.fields.specs.Layout.{total, join, numbersAt, numberFields, NumbersFit}
-use Rattle.fields.proofs.Laws.Bytes.{bytes-nil, bytes-append}
-use Rattle.fields.proofs.Laws.Numbers.{length-beBytes, bytes-beBytes, beAt-lt}
+use Rattle.fields.proofs.Laws.Numbers.{length-beBytes, beAt-lt}
 use Rattle.fields.proofs.Laws.Checks.{cond-pass, cond-fault}
+use Rattle.fields.proofs.Laws.Lists.{length-flat}
 use Rattle.fields.proofs.Laws.Layout.{join-cut, cut-join, widths-numbers, numbers-back, numbers-front}
 use Rattle.fields.proofs.Laws.Stores.{sets-flat-next}
 use Rattle.fields.proofs.Laws.Tests.{cond-cases}
@@ -25,15 +25,8 @@ use Rattle.pose.specs.Position.{PositionCount, three, six, seven, WellPo
 -- ---- words and their bytes
 
 pub length-wordBytes : (ws : List ℕ) → length (wordBytes ws) ≡ 4 * length ws
-unfolding wordBytes flat
-length-wordBytes [] = refl
-length-wordBytes (w ∷ ws) =
-    length-append (beBytes 4 w) (wordBytes ws) ∙ omega (arith, length-beBytes 4 w, length-wordBytes ws)
-
-pub bytes-wordBytes : (ws : List ℕ) → Bytes (wordBytes ws)
-unfolding wordBytes flat
-bytes-wordBytes [] = bytes-nil
-bytes-wordBytes (w ∷ ws) = bytes-append (beBytes 4 w) (wordBytes ws) (bytes-beBytes 4 w) (bytes-wordBytes ws)
+unfolding wordBytes
+length-wordBytes ws = length-flat (beBytes 4) 4 (length-beBytes 4) ws
 
 -- ---- words as a layout of numbers of four bytes
 
@@ -64,7 +57,7 @@ words-read n ws e h =
     let f = numberFields (replicate (length ws) 4) ws in
     let s : wordBytes ws ≡ join f ++ [] = sym (join-words ws) ∙ sym (append-nil (join f)) in
     ap₂ (λ (m : ℕ) (l : List ℕ). numbersAt 0 (replicate m 4) l) (sym e) s
-    ∙ ap (map beVal) (cut-join [] f (replicate (length ws) 4) [] 0 refl (widths-numbers (replicate (length ws) 4) ws (fit ws h)))
+    ∙ ap (map beVal) (cut-join [] f (replicate (length ws) 4) [] 0 refl (widths-numbers (replicate (length ws) 4) ws (length-replicate (length ws) 4)))
     ∙ numbers-front (replicate (length ws) 4) ws (fit ws h)
 
 -- the bytes of the words read are the bytes that they were read from

@@ -1,7 +1,7 @@
 -- What is stated of POSITION, from the laws of words.
 use Prim.Native.Nat.{ℕ, _*_, _-_, _≤_}
 use mathlib.Core.Path.{_≡_, refl, sym, ap, ap₂, _∙_}
-use mathlib.Core.Bool.{Bool, true, false, cond}
+use mathlib.Core.Bool.{cond}
 use mathlib.Core.List.{List, [], _∷_, _++_}
 use native.Mathlib.Omega.{arith}
 use lib.Dec.{eqb}
@@ -16,6 +16,7 @@ use Rattle.fields.specs.Checks.{orElse}
 use Rattle.fields.specs.Answer.{writtenNumber, roomFault}
 use Rattle.fields.proofs.Laws.Checks.{else-zero, cond-faulty}
 use Rattle.fields.proofs.Laws.Numbers.{beAt-past}
+use Rattle.fields.proofs.Laws.Tests.{cond-cases}
 use Rattle.fields.proofs.Laws.Answer.{written-wrote, written-number, out-wrote, room-enough}
 use Rattle.pose.specs.declared.PositionRead.{PositionRead}
 use Rattle.pose.specs.Words.{wordBytes}
@@ -49,11 +50,10 @@ handed c b h = ap wordBytes (words-of c h) ∙ words-back (wordsIn (length c)) c
 
 zeros : (c : List ℕ) → drop (positionOf c .count) (positionOf c .words) ≡ replicate (7 - positionOf c .count) 0
 unfolding positionOf
-zeros c = go (eqb (positionFault c) 0) refl
-  where
-    go : (t : Bool) → eqb (positionFault c) 0 ≡ t → let r : PositionRead = cond t (record { number = 0; count = wordsIn (length c); words = positionAt c }) (record { number = positionFault c; count = 0; words = replicate 7 0 }) in drop (r .count) (r .words) ≡ replicate (7 - r .count) 0
-    go true e = let k = position-count c (eqb-true (positionFault c) 0 e) in behind (wordsIn (length c)) c (k .1) (k .0)
-    go false e = refl
+zeros c =
+    cond-cases (λ (r : PositionRead). drop (r .count) (r .words) ≡ replicate (7 - r .count) 0) (eqb (positionFault c) 0) _ _
+    (λ e. let k = position-count c (eqb-true (positionFault c) 0 e) in behind (wordsIn (length c)) c (k .1) (k .0))
+    (λ e. refl)
 
 -- ---- the writer
 

@@ -1,13 +1,14 @@
 -- The check of the three lists: what it says where it passes, and that it fails otherwise. Assumes nothing.
 use Prim.Native.Nat.{ℕ}
-use mathlib.Core.Path.{_≡_, refl}
-use mathlib.Core.Bool.{Bool, true, false}
+use mathlib.Core.Path.{_≡_}
+use mathlib.Core.Bool.{true, false}
 use mathlib.Core.List.{List}
 use lib.Dec.{eqb}
 use lib.ListN.{length}
 use borrow.Author.Tests.{eqb-true, eq-eqb}
 use Rattle.fields.specs.Lists.{all}
 use Rattle.fields.proofs.Laws.Checks.{and-split, and-join}
+use Rattle.fields.proofs.Laws.Tests.{is-false}
 use Rattle.bind_writer.specs.Lists.{children, SameCount}
 use Rattle.bind_writer.specs.Writer.{textsGood, countFits, tableFits, layoutGood}
 
@@ -40,8 +41,4 @@ module _ (ts ns ds : List (List ℕ)) where
       (and-join _ _ (l .few) (and-join _ _ (l .texts) (l .table))))
 
   pub not-laid : (Laid ts ns ds → ⊥) → layoutGood ts ns ds ≡ false
-  not-laid n = go (layoutGood ts ns ds) refl
-    where
-      go : (b : Bool) → layoutGood ts ns ds ≡ b → layoutGood ts ns ds ≡ false
-      go true e = absurd (n (laid e))
-      go false e = e
+  not-laid n = is-false (layoutGood ts ns ds) (λ e. n (laid e))

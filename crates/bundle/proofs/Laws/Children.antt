@@ -9,7 +9,7 @@ use lib.ListN.{length, take, drop, replicate, length-append, length-replicate}
 use lib.Seq.{take-at, drop-at}
 use borrow.Author.Tests.{le-leb}
 use Rattle.fields.specs.Bytes.{Bytes}
-use Rattle.fields.specs.Lists.{Each, flat}
+use Rattle.fields.specs.Lists.{Each}
 use Rattle.fields.specs.Numbers.{beVal, beBytes}
 use Rattle.fields.specs.Text.{textOf, pastText, allZero, fieldOk, textBytes}
 use Rattle.fields.proofs.Laws.Bytes.{bytes-take, bytes-drop}
@@ -33,11 +33,6 @@ pub length-childrenFrom : (k : ℕ) (h t d : List ℕ) → length (childrenFrom 
 unfolding childrenFrom
 length-childrenFrom zero h t d = refl
 length-childrenFrom (suc k) h t d = ap suc (length-childrenFrom k (drop 20 h) (pastText t) (afterBlock (sizeOf h) d))
-
--- what the elements are written as, and further bytes
-pub flat-cons : {A : Type 0} (f : A → List ℕ) (x : A) (xs : List A) (r : List ℕ) → flat f (x ∷ xs) ++ r ≡ f x ++ (flat f xs ++ r)
-unfolding flat
-flat-cons f x xs r = append-assoc (f x) (flat f xs) r
 
 pub length-childHeader : (c : Child) → length (childHeader c) ≡ 20
 unfolding childHeader

@@ -11,16 +11,15 @@ use Rattle.fields.specs.Lists.{Each, flat}
 use Rattle.fields.specs.Numbers.{beVal, beBytes}
 use Rattle.fields.specs.Text.{isText, textOf, pastText, allZero, textOk, fieldOk}
 use Rattle.fields.proofs.Laws.Checks.{and-join}
+use Rattle.fields.proofs.Laws.Lists.{flat-cons, length-flat}
 use Rattle.fields.proofs.Laws.Numbers.{length-beBytes, beVal-beBytes}
 use Rattle.fields.proofs.Laws.Text.{text-is, all-zeros}
 use Rattle.bundle.specs.Children.{Child, padded, childHeader, childName, childData, nameTable, encodeChildren, WellChild, WellBundle}
 use Rattle.bundle.specs.Layout.{count, headers, afterHeaders, tableSize, tableOf, dataOf, sizeOf, afterBlock, typesOk, nameOk, namesOk, tableOk, blockOk, dataOk, layoutOk, layoutFault}
-use Rattle.bundle.proofs.Laws.Children.{childrenFrom, childrenOf, flat-cons, length-childHeader, header-ok, header-type, header-size, header-rest, name-text, name-rest, block-data, block-rest, block-ok}
+use Rattle.bundle.proofs.Laws.Children.{childrenFrom, childrenOf, length-childHeader, header-ok, header-type, header-size, header-rest, name-text, name-rest, block-data, block-rest, block-ok}
 
 pub length-headers : (cs : List Child) → length (flat childHeader cs) ≡ 20 * length cs
-unfolding flat
-length-headers [] = refl
-length-headers (c ∷ cs) = omega (arith, length-append (childHeader c) (flat childHeader cs), length-childHeader c, length-headers cs)
+length-headers cs = length-flat childHeader 20 length-childHeader cs
 
 pub padded-even : (x : List ℕ) → length (padded x) % 2 ≡ 0
 unfolding padded

@@ -1,7 +1,6 @@
 -- Look-ups in two bundles: the site's child of the name, else the default's. Assumes nothing.
 use Prim.Native.Nat.{ℕ, _≤_, _<_}
-use mathlib.Core.Path.{_≡_, refl, sym, ap, ap₂, _∙_}
-use mathlib.Core.Bool.{Bool, true, false}
+use mathlib.Core.Path.{_≡_, sym, ap, ap₂, _∙_}
 use mathlib.Core.List.{List, []}
 use native.Mathlib.Omega.{arith}
 use lib.Dec.{ltb}
@@ -9,6 +8,7 @@ use lib.ListN.{take}
 use lib.Seq.{take-nil, drop-nil}
 use borrow.Author.Tests.{eq-eqb, ne-eqb, lt-ltb, le-ltb, ltb-true, ltb-false}
 use Rattle.fields.proofs.Laws.Checks.{else-zero, else-first, else-second}
+use Rattle.fields.proofs.Laws.Tests.{by-test}
 use Rattle.bundle.specs.Children.{Child}
 use Rattle.bundle.specs.Layout.{count}
 use Rattle.content.specs.Check.{bindFault, deepest}
@@ -39,16 +39,19 @@ module _ (a b x : List ℕ) where
   unfolding eitherPlace
   from-default h = simp (le-ltb (indexOf a x) (count a) h)
 
+  -- one of the two
+  by-source : {C : Type 0}
+      → (eitherPlace a b x ≡ sourced Site (placeIn (eitherFault a b) a (indexOf a x)) → C)
+      → (eitherPlace a b x ≡ sourced Default (placeIn (eitherFault a b) b (indexOf b x)) → C) → C
+  by-source f g =
+      by-test (ltb (indexOf a x) (count a)) (λ e. f (from-site (ltb-true _ _ e))) (λ e. g (from-default (ltb-false _ _ e)))
+
   -- a fault of either refuses
   faulty : (eitherFault a b ≡ 0 → ⊥) → eitherPlace a b x ≡ record { number = eitherFault a b; source = Neither; at = 0; len = 0 }
-  faulty h = go (ltb (indexOf a x) (count a)) refl
+  faulty h = by-source (λ e. e ∙ refused Site a (indexOf a x)) (λ e. e ∙ refused Default b (indexOf b x))
     where
       refused : (y : Source) (s : List ℕ) (j : ℕ) → sourced y (placeIn (eitherFault a b) s j) ≡ record { number = eitherFault a b; source = Neither; at = 0; len = 0 }
       refused y s j = ap (sourced y) (place-refused (eitherFault a b) s j h) ∙ sourced-refused y _ h
-
-      go : (t : Bool) → ltb (indexOf a x) (count a) ≡ t → eitherPlace a b x ≡ record { number = eitherFault a b; source = Neither; at = 0; len = 0 }
-      go true e = from-site (ltb-true _ _ e) ∙ refused Site a (indexOf a x)
-      go false e = from-default (ltb-false _ _ e) ∙ refused Default b (indexOf b x)
 
 -- child n of the bundle of a source
 found : (y : Source) (s : List ℕ) (cs : List Child) (n : ℕ) (c : Child) → HasChildren s cs → Numbered n c cs → (fault j : ℕ) → fault ≡ 0 → j ≡ n
@@ -89,7 +92,7 @@ module _ (a b : List ℕ) (cs ds : List Child) (x : List ℕ) (ha : HasChildren 
 -- what is refused is an empty part of neither
 no-part : (a b x : List ℕ) → (eitherPlace a b x .number ≡ 0 → ⊥) → (eitherPlace a b x .source ≡ Neither) × (eitherPart (eitherPlace a b x) a b ≡ [])
 unfolding sourced
-no-part a b x h = go (ltb (indexOf a x) (count a)) refl
+no-part a b x h = by-source a b x (of-neither Site _) (of-neither Default _)
   where
     of-neither : (y : Source) (p : Place) → eitherPlace a b x ≡ sourced y p → (eitherPlace a b x .source ≡ Neither) × (eitherPart (eitherPlace a b x) a b ≡ [])
     of-neither y p e =
@@ -97,10 +100,6 @@ no-part a b x h = go (ltb (indexOf a x) (count a)) refl
           ap (λ (q : EitherPlace). q .source) k,
           ap (λ (q : EitherPlace). eitherPart q a b) k ∙ ap (take (p .len)) (drop-nil (p .at)) ∙ take-nil (p .len),
         )
-
-    go : (t : Bool) → ltb (indexOf a x) (count a) ≡ t → (eitherPlace a b x .source ≡ Neither) × (eitherPart (eitherPlace a b x) a b ≡ [])
-    go true e = of-neither Site _ (from-site a b x (ltb-true _ _ e))
-    go false e = of-neither Default _ (from-default a b x (ltb-false _ _ e))
 
 pub either-lookups : EitherLookups
 either-lookups =

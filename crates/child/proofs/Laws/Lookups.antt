@@ -10,10 +10,10 @@ use Rattle.fields.specs.Lists.{Each, flat}
 use Rattle.fields.specs.Numbers.{beBytes}
 use Rattle.fields.specs.Text.{textOf}
 use Rattle.fields.proofs.Laws.Checks.{else-second}
-use Rattle.fields.proofs.Laws.Lists.{flat-append, each-middle}
+use Rattle.fields.proofs.Laws.Lists.{flat-cons, flat-append, each-middle}
 use Rattle.bundle.specs.Children.{Child, padded, childHeader, childName, childData, nameTable, encodeChildren, WellChild, WellBundle}
 use Rattle.bundle.specs.Layout.{count, headers, tableOf, dataOf, typeOf, sizeOf}
-use Rattle.bundle.proofs.Laws.Children.{flat-cons, header-type, header-size, name-text, block-data}
+use Rattle.bundle.proofs.Laws.Children.{header-type, header-size, name-text, block-data}
 use Rattle.bundle.proofs.Laws.Written.{length-encode, headers-written, count-written, table-written, data-of-written, data-front}
 use Rattle.content.specs.Kinds.{bindText}
 use Rattle.content.specs.Tree.{Content, transform, position, image, bind, other, typeText, encode, childList, WellFormed}

@@ -8,10 +8,10 @@ use Rattle.fields.specs.Bytes.{same}
 use Rattle.fields.specs.Lists.{Each, flat}
 use Rattle.fields.specs.Text.{pastText}
 use Rattle.fields.proofs.Laws.Bytes.{same-refl, not-same}
-use Rattle.fields.proofs.Laws.Lists.{each-middle, flat-append}
+use Rattle.fields.proofs.Laws.Lists.{each-middle, flat-cons, flat-append}
 use Rattle.bundle.specs.Children.{Child, childHeader, childName, childData, padded, WellChild}
 use Rattle.bundle.specs.Layout.{sizeOf, afterBlock}
-use Rattle.bundle.proofs.Laws.Children.{flat-cons, header-size, header-rest, name-text, name-rest, block-rest}
+use Rattle.bundle.proofs.Laws.Children.{header-size, header-rest, name-text, name-rest, block-rest}
 use Rattle.bundle.proofs.Laws.Written.{length-headers, data-front}
 use Rattle.child.specs.Lookup.{namesFrom, dataFrom, indexIn}
 use Rattle.child.specs.Lookups.{NoneNamed}

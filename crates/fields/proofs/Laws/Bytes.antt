@@ -1,6 +1,6 @@
 -- Bytes, parts of a list, equal lists, lists brought to a length.
 use Prim.Native.Nat.{ℕ, zero, suc, _+_, _-_, _<_, _≤_}
-use mathlib.Core.Path.{_≡_, refl, sym, ap, ap₂, _∙_, subst, subst⁻¹}
+use mathlib.Core.Path.{_≡_, refl, sym, ap, ap₂, _∙_, subst⁻¹}
 use mathlib.Core.Bool.{Bool, true, false, _&&_, false≢true, and-false}
 use mathlib.Core.List.{List, [], _∷_, _++_}
 use native.Mathlib.Omega.{arith}
@@ -11,6 +11,8 @@ use lib.ListN.{length, getD, take, drop, replicate, length-append, length-drop, 
 use lib.Seq.{take-nil, take-take, take-all, drop-drop, drop-cons, getD-drop, length-take-le}
 use borrow.Author.Tests.{eqb-true, eq-eqb}
 use Rattle.fields.specs.Bytes.{Bytes, part, same, sized}
+use Rattle.fields.proofs.Laws.Checks.{and-split}
+use Rattle.fields.proofs.Laws.Tests.{is-false}
 
 -- ---- bytes
 
@@ -31,14 +33,6 @@ pub bytes-take : (n : ℕ) (s : List ℕ) → Bytes s → Bytes (take n s)
 bytes-take zero s h = bytes-nil
 bytes-take (suc n) [] h = bytes-nil
 bytes-take (suc n) (b ∷ s) h = bytes-cons b (take n s) (h 0) (bytes-take n s (bytes-tail b s h))
-
-pub bytes-append : (s t : List ℕ) → Bytes s → Bytes t → Bytes (s ++ t)
-bytes-append [] t hs ht = ht
-bytes-append (b ∷ s) t hs ht = bytes-cons b (s ++ t) (hs 0) (bytes-append s t (bytes-tail b s hs) ht)
-
-pub bytes-zeros : (n : ℕ) → Bytes (replicate n 0)
-bytes-zeros zero = bytes-nil
-bytes-zeros (suc n) = bytes-cons 0 (replicate n 0) (omega arith) (bytes-zeros n)
 
 -- ---- parts
 
@@ -88,11 +82,9 @@ unfolding same
 same-eq [] [] h = refl
 same-eq [] (y ∷ ys) h = absurd (false≢true h)
 same-eq (x ∷ xs) [] h = absurd (false≢true h)
-same-eq (x ∷ xs) (y ∷ ys) h = go (eqb x y) refl h (same-eq xs ys)
-  where
-    go : (t : Bool) → eqb x y ≡ t → (t && same xs ys) ≡ true → (same xs ys ≡ true → xs ≡ ys) → x ∷ xs ≡ y ∷ ys
-    go true e k ih = ap₂ {C = List ℕ} (λ p q. p ∷ q) (eqb-true x y e) (ih k)
-    go false e k ih = absurd (false≢true k)
+same-eq (x ∷ xs) (y ∷ ys) h =
+    let k = and-split (eqb x y) (same xs ys) h in
+    ap₂ {C = List ℕ} (λ p q. p ∷ q) (eqb-true x y (k .0)) (same-eq xs ys (k .1))
 
 pub same-refl : (a : List ℕ) → same a a ≡ true
 unfolding same
@@ -103,11 +95,7 @@ pub same-differ : (a b : List ℕ) → same a b ≡ false → a ≡ b → ⊥
 same-differ a b h e = false≢true (sym h ∙ ap (same a) (sym e) ∙ same-refl a)
 
 pub not-same : (a b : List ℕ) → (a ≡ b → ⊥) → same a b ≡ false
-not-same a b h = go (same a b) refl
-  where
-    go : (t : Bool) → same a b ≡ t → same a b ≡ false
-    go true e = absurd (h (same-eq a b e))
-    go false e = e
+not-same a b h = is-false (same a b) (λ e. h (same-eq a b e))
 
 -- ---- lists brought to a length
 
@@ -131,7 +119,3 @@ sized-nil w = ap₂ (λ (x y : List ℕ). x ++ y) (take-nil w) (ap (λ (n : ℕ)
 pub sized-fits : (w : ℕ) (s : List ℕ) → length s ≤ w → sized w s ≡ s ++ replicate (w - length s) 0
 unfolding sized
 sized-fits w s h = ap (λ (x : List ℕ). x ++ replicate (w - length s) 0) (take-all w s h)
-
-pub bytes-sized : (w : ℕ) (s : List ℕ) → Bytes s → Bytes (sized w s)
-unfolding sized
-bytes-sized w s h = bytes-append (take w s) (replicate (w - length s) 0) (bytes-take w s h) (bytes-zeros (w - length s))

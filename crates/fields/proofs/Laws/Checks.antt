@@ -17,6 +17,10 @@ pub else-first : (a b : ℕ) → (a ≡ 0 → ⊥) → orElse a b ≡ a
 else-first zero b h = absurd (h refl)
 else-first (suc a) b h = refl
 
+-- the same with the first fault's number
+pub else-fault : (a b k : ℕ) → a ≡ suc k → orElse a b ≡ suc k
+else-fault a b k e = ap (λ (x : ℕ). orElse x b) e
+
 pub else-second : (a b : ℕ) → a ≡ 0 → orElse a b ≡ b
 else-second a b h = ap (λ (x : ℕ). orElse x b) h
 

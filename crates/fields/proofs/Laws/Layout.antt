@@ -1,26 +1,20 @@
 -- Layouts, for any number of fields.
-use Prim.Native.Nat.{ℕ, _+_, _≤_}
+use Prim.Native.Nat.{ℕ, suc, _+_, _≤_}
 use mathlib.Core.Path.{_≡_, refl, sym, ap, ap₂, _∙_}
 use mathlib.Core.List.{List, [], _∷_, _++_, map, append-assoc}
 use native.Mathlib.Omega.{arith}
 use lib.ListN.{length, take, drop, length-append}
 use lib.Seq.{take-add, drop-drop, take-at, drop-at}
 use Rattle.fields.specs.Bytes.{Bytes, part}
-use Rattle.fields.specs.Lists.{Each}
 use Rattle.fields.specs.Numbers.{beVal}
 use Rattle.fields.specs.Layout.{total, join, cut, Widths, numbersAt, numberFields, NumbersFit}
-use Rattle.fields.proofs.Laws.Bytes.{bytes-nil, bytes-append}
-use Rattle.fields.proofs.Laws.Numbers.{length-beBytes, bytes-beBytes, beVal-beBytes, beBytes-beAt}
+use Rattle.fields.proofs.Laws.Numbers.{length-beBytes, beVal-beBytes, beBytes-beAt}
 
 pub length-join : (xs : List (List ℕ)) (ws : List ℕ) → Widths xs ws → length (join xs) ≡ total ws
 length-join [] [] h = refl
 length-join [] (w ∷ ws) h = absurd h
 length-join (x ∷ xs) [] h = absurd h
 length-join (x ∷ xs) (w ∷ ws) h = length-append x (join xs) ∙ omega (arith, h .0, length-join xs ws (h .1))
-
-pub bytes-join : (xs : List (List ℕ)) → Each Bytes xs → Bytes (join xs)
-bytes-join [] h = bytes-nil
-bytes-join (x ∷ xs) h = bytes-append x (join xs) (h .0) (bytes-join xs (h .1))
 
 -- the cut fields joined are the bytes that were cut
 pub join-cut : (at : ℕ) (ws s : List ℕ) → join (cut at ws s) ≡ part (total ws) at s
@@ -48,16 +42,13 @@ cut-join pre (x ∷ xs) (w ∷ ws) rest at e h =
 
 -- ---- layouts of numbers alone
 
-pub widths-numbers : (ws vs : List ℕ) → NumbersFit ws vs → Widths (numberFields ws vs) ws
-widths-numbers [] [] h = tt
-widths-numbers [] (v ∷ vs) h = absurd h
-widths-numbers (w ∷ ws) [] h = absurd h
-widths-numbers (w ∷ ws) (v ∷ vs) h = (length-beBytes w v, widths-numbers ws vs (h .1))
-
-pub bytes-numbers : (ws vs : List ℕ) → Each Bytes (numberFields ws vs)
-bytes-numbers [] vs = tt
-bytes-numbers (w ∷ ws) [] = tt
-bytes-numbers (w ∷ ws) (v ∷ vs) = (bytes-beBytes w v, bytes-numbers ws vs)
+-- as many numbers as widths
+pub widths-numbers : (ws vs : List ℕ) → length ws ≡ length vs → Widths (numberFields ws vs) ws
+widths-numbers [] vs h = tt
+widths-numbers (w ∷ ws) [] h = absurd (let z : _≡_ {A = ℕ} (suc (length ws)) 0 = h in omega arith)
+widths-numbers (w ∷ ws) (v ∷ vs) h =
+    let k : length ws ≡ length vs = let z : _≡_ {A = ℕ} (suc (length ws)) (suc (length vs)) = h in omega arith in
+    (length-beBytes w v, widths-numbers ws vs k)
 
 -- the numbers read, as fields, are the fields read
 pub numbers-back : (at : ℕ) (ws s : List ℕ) → Bytes s → at + total ws ≤ length s → numberFields ws (numbersAt at ws s) ≡ cut at ws s

@@ -1,14 +1,19 @@
 -- Tests and rules at each element of a list, and the bytes of its elements one after the other.
-use Prim.Native.Nat.{ℕ, zero, suc, _+_, _≤_, _<_}
-use mathlib.Core.Path.{_≡_, refl, sym, ap, _∙_}
+use Prim.Native.Nat.{ℕ, zero, suc, _+_, _*_, _≤_, _<_}
+use mathlib.Core.Path.{_≡_, refl, sym, ap, ap₂, _∙_}
+use mathlib.Core.Logic.{_⊎_, inl, inr, ⊎-elim}
 use mathlib.Core.Bool.{Bool, true, false}
 use mathlib.Core.List.{List, [], _∷_, _++_, append-assoc, append-nil, map}
 use native.Mathlib.Omega.{arith}
+use native.Mathlib.Nat.{add-comm, mul-zero, mul-suc}
 use native.Mathlib.Numerals.{add-one}
 use lib.ListN.{length, getD, take, drop, length-append, take-append-drop, drop-of-length-le}
 use lib.Seq.{take-suc, take-all, drop-cons}
+use Rattle.fields.specs.Bytes.{same}
 use Rattle.fields.specs.Lists.{all, any, Each, flat}
+use Rattle.fields.proofs.Laws.Bytes.{same-eq, same-differ}
 use Rattle.fields.proofs.Laws.Checks.{and-split, and-join}
+use Rattle.fields.proofs.Laws.Tests.{by-test}
 
 -- ---- a test at each element, as a loop makes it: what it is from place i on
 
@@ -61,9 +66,39 @@ pub each-middle : {A : Type 0} (P : A → Type 0) (before : List A) (x : A) (aft
 each-middle P [] x after h = h .0
 each-middle P (y ∷ before) x after h = each-middle P before x after (h .1)
 
+-- the first element whose part f is k, with those before and after it; or none is
+module _ {A : Type 0} (f : A → List ℕ) (k : List ℕ) where
+  abbrev pub FirstIn : List A → Type 0
+  FirstIn xs =
+      (before : List A) × (x : A) × (after : List A) × (before ++ (x ∷ after) ≡ xs) × (f x ≡ k) × Each (λ y. f y ≡ k → ⊥) before
+
+  pub first-or-none : (xs : List A) → FirstIn xs ⊎ Each (λ y. f y ≡ k → ⊥) xs
+  first-or-none [] = inr tt
+  first-or-none (x ∷ xs) =
+      by-test (same (f x) k)
+      (λ e. inl ([], x, xs, refl, same-eq (f x) k e, tt))
+      (λ e.
+      let n = same-differ (f x) k e in
+      ⊎-elim
+      (λ r. inl (x ∷ r .0, r .1, r .2, ap {B = List A} (λ l. x ∷ l) (r .3), r .4, (n, r .5)))
+      (λ r. inr (n, r))
+      (first-or-none xs))
+
 -- ---- bytes of elements, one after the other
 
 module _ {A : Type 0} (f : A → List ℕ) where
+  -- the first element's in front of the others', with further bytes r
+  pub flat-cons : (x : A) (xs : List A) (r : List ℕ) → flat f (x ∷ xs) ++ r ≡ f x ++ (flat f xs ++ r)
+  unfolding flat
+  flat-cons x xs r = append-assoc (f x) (flat f xs) r
+
+  -- elements of w bytes each
+  pub length-flat : (w : ℕ) → ((x : A) → length (f x) ≡ w) → (xs : List A) → length (flat f xs) ≡ w * length xs
+  unfolding flat
+  length-flat w h [] = sym (mul-zero w)
+  length-flat w h (x ∷ xs) =
+      length-append (f x) (flat f xs) ∙ ap₂ (λ (m n : ℕ). m + n) (h x) (length-flat w h xs) ∙ add-comm w (w * length xs) ∙ sym (mul-suc w (length xs))
+
   pub flat-append : (xs ys : List A) → flat f (xs ++ ys) ≡ flat f xs ++ flat f ys
   unfolding flat
   flat-append [] ys = refl

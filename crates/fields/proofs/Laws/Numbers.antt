@@ -11,7 +11,7 @@ use lib.ListN.{length, take, drop, getD, length-append, length-take, drop-of-len
 use lib.Seq.{take-suc, take-nil, take-all}
 use Rattle.fields.specs.Bytes.{Bytes, part}
 use Rattle.fields.specs.Numbers.{beVal, beBytes, beAt, BigEndian}
-use Rattle.fields.proofs.Laws.Bytes.{bytes-nil, bytes-cons, bytes-tail, bytes-part, length-part}
+use Rattle.fields.proofs.Laws.Bytes.{bytes-tail, bytes-part, length-part}
 
 pow-pos : (n : ℕ) → 0 < 256 ^ n
 pow-pos n = one-le-pow n 256 (lit< tt)
@@ -23,11 +23,6 @@ pub length-beBytes : (n v : ℕ) → length (beBytes n v) ≡ n
 unfolding beBytes
 length-beBytes zero v = refl
 length-beBytes (suc n) v = ap suc (length-beBytes n v)
-
-pub bytes-beBytes : (n v : ℕ) → Bytes (beBytes n v)
-unfolding beBytes
-bytes-beBytes zero v = bytes-nil
-bytes-beBytes (suc n) v = bytes-cons (v / 256 ^ n % 256) (beBytes n v) (omega arith) (bytes-beBytes n v)
 
 -- the last n of more digits
 drop-beBytes : (k n v : ℕ) → drop k (beBytes (k + n) v) ≡ beBytes n v

@@ -14,6 +14,11 @@ pub by-zero {ℓ} : {C : Type ℓ} (n : ℕ) → (n ≡ 0 → C) → ((n ≡ 0 �
 by-zero zero f g = f refl
 by-zero (suc n) f g = g (λ e. omega arith)
 
+-- a test that cannot be true
+pub is-false : (t : Bool) → (t ≡ true → ⊥) → t ≡ false
+is-false true h = absurd (h refl)
+is-false false h = refl
+
 pub true-false {ℓ} : {C : Type ℓ} (t : Bool) → t ≡ true → t ≡ false → C
 true-false t e h = absurd (false≢true (sym h ∙ e))
 

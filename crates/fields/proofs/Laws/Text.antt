@@ -1,6 +1,6 @@
 -- Texts and text fields. Callers cite these laws and never open what a field's zeros are.
-use Prim.Native.Nat.{ℕ, zero, suc, _+_, _-_, _<_, _≤_}
-use mathlib.Core.Path.{_≡_, refl, sym, ap, ap₂, _∙_, subst⁻¹}
+use Prim.Native.Nat.{ℕ, zero, suc, _+_, _<_, _≤_}
+use mathlib.Core.Path.{_≡_, refl, sym, ap, ap₂, _∙_}
 use mathlib.Core.Bool.{Bool, true, false, cond, _&&_, and-false}
 use mathlib.Core.List.{List, [], _∷_, _++_}
 use native.Mathlib.Omega.{arith}
@@ -9,12 +9,13 @@ use lib.Dec.{eqb, ltb}
 use lib.ListN.{length, getD, take, drop, replicate, drop-of-length-le, length-take}
 use lib.Seq.{drop-cons, take-all}
 use borrow.Author.Tests.{eqb-true, eqb-false, leb-true, ltb-true, lt-ltb, le-ltb, ne-eqb, eq-eqb}
-use Rattle.fields.specs.Bytes.{Bytes, part, sized}
+use Rattle.fields.specs.Bytes.{part, sized}
 use Rattle.fields.specs.Lists.{all, Each}
 use Rattle.fields.specs.Text.{textByte, isText, Text, textOf, pastText, zeroByte, allZero, textOk, textClean, fieldOk, textBytes, TextFields}
-use Rattle.fields.proofs.Laws.Bytes.{bytes-nil, bytes-cons, bytes-take, bytes-drop, bytes-sized, length-part, length-sized, sized-zero, sized-cons, sized-nil}
+use Rattle.fields.proofs.Laws.Bytes.{length-part, length-sized, sized-zero, sized-cons, sized-nil}
 use Rattle.fields.proofs.Laws.Checks.{and-split, and-join}
 use Rattle.fields.proofs.Laws.Lists.{all-each, each-all}
+use Rattle.fields.proofs.Laws.Tests.{by-test}
 
 -- ---- texts
 
@@ -37,10 +38,6 @@ is-text t h = all-each textByte (λ b. (0 < b) × (b < 128)) byte-text t h
 pub text-is : (t : List ℕ) → Text t → isText t ≡ true
 unfolding isText
 text-is t h = each-all textByte (λ b. (0 < b) × (b < 128)) text-byte t h
-
-pub bytes-text : (t : List ℕ) → Text t → Bytes t
-bytes-text [] h = bytes-nil
-bytes-text (b ∷ t) h = bytes-cons b t (omega arith) (bytes-text t (h .1))
 
 -- ---- zeros
 
@@ -95,26 +92,19 @@ past-drop s = past-suc s ∙ ap (λ (n : ℕ). drop n s) (sym (add-one (length (
 pub length-textOf : (s : List ℕ) → length (textOf s) ≤ length s
 length-textOf s = omega (arith, ap length (text-take s), length-take (length (textOf s)) s)
 
-pub bytes-textOf : (s : List ℕ) → Bytes s → Bytes (textOf s)
-bytes-textOf s h = subst⁻¹ Bytes (text-take s) (bytes-take (length (textOf s)) s h)
-
-pub bytes-pastText : (s : List ℕ) → Bytes s → Bytes (pastText s)
-bytes-pastText s h = subst⁻¹ Bytes (past-drop s) (bytes-drop (length (textOf s) + 1) s h)
-
 -- bytes with a 0 among them are a text, a 0 and the rest
 pub text-split : (s : List ℕ) → length (textOf s) < length s → textOf s ++ (0 ∷ pastText s) ≡ s
 text-split [] h = absurd (omega arith)
-text-split (b ∷ bs) h = go (eqb b 0) refl (text-split bs)
-  where
-    go : (t : Bool) → eqb b 0 ≡ t → (length (textOf bs) < length bs → textOf bs ++ (0 ∷ pastText bs) ≡ bs) → textOf (b ∷ bs) ++ (0 ∷ pastText (b ∷ bs)) ≡ b ∷ bs
-    go true e ih =
-        let z : b ≡ 0 = eqb-true b 0 e in
-        let k = text-zero b bs z in
-        ap₂ (λ (x y : List ℕ). x ++ (0 ∷ y)) (k .0) (k .1) ∙ ap (λ (x : ℕ). x ∷ bs) (sym z)
-    go false e ih =
-        let k = text-more b bs (eqb-false b 0 e) in
-        let l : length (textOf (b ∷ bs)) ≡ suc (length (textOf bs)) = ap length (k .0) in
-        ap₂ (λ (x y : List ℕ). x ++ (0 ∷ y)) (k .0) (k .1) ∙ ap {B = List ℕ} (λ r. b ∷ r) (ih (omega arith))
+text-split (b ∷ bs) h =
+    by-test (eqb b 0)
+    (λ e.
+    let z : b ≡ 0 = eqb-true b 0 e in
+    let k = text-zero b bs z in
+    ap₂ (λ (x y : List ℕ). x ++ (0 ∷ y)) (k .0) (k .1) ∙ ap (λ (x : ℕ). x ∷ bs) (sym z))
+    (λ e.
+    let k = text-more b bs (eqb-false b 0 e) in
+    let l : length (textOf (b ∷ bs)) ≡ suc (length (textOf bs)) = ap length (k .0) in
+    ap₂ (λ (x y : List ℕ). x ++ (0 ∷ y)) (k .0) (k .1) ∙ ap {B = List ℕ} (λ r. b ∷ r) (text-split bs (omega arith)))
 
 -- and a text, a 0 and a rest are read as that text and that rest
 pub text-ended : (t rest : List ℕ) → Text t → (textOf (t ++ (0 ∷ rest)) ≡ t) × (pastText (t ++ (0 ∷ rest)) ≡ rest)
@@ -146,10 +136,6 @@ pub length-textBytes : (w : ℕ) (t : List ℕ) → length (textBytes w t) ≡ w
 unfolding textBytes
 length-textBytes w t = length-sized w t
 
-pub bytes-textBytes : (w : ℕ) (t : List ℕ) → Text t → Bytes (textBytes w t)
-unfolding textBytes
-bytes-textBytes w t h = bytes-sized w t (bytes-text t h)
-
 -- a field as an array holds it
 pub textBytes-sized : (w : ℕ) (t : List ℕ) → textBytes w t ≡ sized w t
 unfolding textBytes
@@ -165,19 +151,18 @@ text-ok f h = is-text (textOf f) h
 
 sized-text : (f : List ℕ) → allZero (pastText f) ≡ true → sized (length f) (textOf f) ≡ f
 sized-text [] h = sized-zero (textOf [])
-sized-text (b ∷ bs) h = go (eqb b 0) refl (sized-text bs)
-  where
-    go : (t : Bool) → eqb b 0 ≡ t → (allZero (pastText bs) ≡ true → sized (length bs) (textOf bs) ≡ bs) → sized (suc (length bs)) (textOf (b ∷ bs)) ≡ b ∷ bs
-    go true e ih =
-        let z : b ≡ 0 = eqb-true b 0 e in
-        let k = text-zero b bs z in
-        let r : bs ≡ replicate (length bs) 0 = zeros-all bs (ap allZero (sym (k .1)) ∙ h) in
-        ap (sized (suc (length bs))) (k .0) ∙ sized-nil (suc (length bs)) ∙ sym (ap₂ {C = List ℕ} (λ x xs. x ∷ xs) z r)
-    go false e ih =
-        let k = text-more b bs (eqb-false b 0 e) in
-        ap (sized (suc (length bs))) (k .0)
-        ∙ sized-cons (length bs) b (textOf bs)
-        ∙ ap {B = List ℕ} (λ l. b ∷ l) (ih (ap allZero (sym (k .1)) ∙ h))
+sized-text (b ∷ bs) h =
+    by-test (eqb b 0)
+    (λ e.
+    let z : b ≡ 0 = eqb-true b 0 e in
+    let k = text-zero b bs z in
+    let r : bs ≡ replicate (length bs) 0 = zeros-all bs (ap allZero (sym (k .1)) ∙ h) in
+    ap (sized (suc (length bs))) (k .0) ∙ sized-nil (suc (length bs)) ∙ sym (ap₂ {C = List ℕ} (λ x xs. x ∷ xs) z r))
+    (λ e.
+    let k = text-more b bs (eqb-false b 0 e) in
+    ap (sized (suc (length bs))) (k .0)
+    ∙ sized-cons (length bs) b (textOf bs)
+    ∙ ap {B = List ℕ} (λ l. b ∷ l) (sized-text bs (ap allZero (sym (k .1)) ∙ h)))
 
 pub clean-text : (f : List ℕ) → textClean f ≡ true → textBytes (length f) (textOf f) ≡ f
 unfolding textClean textBytes

@@ -1,6 +1,6 @@
 -- Checks 1, 2 and 3: what passes each of them, and what is handed out then.
 use Prim.Native.Nat.{ℕ, _<_, _≤_}
-use mathlib.Core.Path.{_≡_, ap, _∙_}
+use mathlib.Core.Path.{_≡_, sym, ap, _∙_}
 use mathlib.Core.Bool.{Bool, true, cond, _&&_}
 use mathlib.Core.List.{List}
 use lib.Dec.{leb}
@@ -9,8 +9,10 @@ use borrow.Author.Tests.{leb-true, le-leb, lt-leb, eq-eqb, ne-eqb}
 use Rattle.fields.specs.Bytes.{part}
 use Rattle.fields.specs.Text.{isText, fieldOk}
 use Rattle.fields.specs.Checks.{orElse}
-use Rattle.fields.proofs.Laws.Checks.{cond-pass, cond-refused, and-split, and-join, zero-else, else-first, else-second}
+use Rattle.fields.proofs.Laws.Checks.{cond-pass, cond-refused, and-split, and-join, zero-else, else-first, else-fault, else-second}
+use Rattle.fields.proofs.Laws.Tests.{by-zero}
 use Rattle.fields.proofs.Laws.Text.{is-text, text-is}
+use Rattle.header.specs.declared.HeaderRead.{HeaderRead}
 use Rattle.header.specs.Header.{WellTexts, limit}
 use Rattle.header.specs.Check.{headerOf, shortFault, textsFault, limitFault, headerFault, handed, refused, headerRead, namesFault}
 
@@ -112,7 +114,7 @@ fault-passed s h =
 -- the fault of a stream that is too short, and of one that is long enough
 pub fault-short : (s : List ℕ) → length s < 58 → headerFault s ≡ 1
 unfolding headerFault
-fault-short s h = ap (λ (n : ℕ). orElse n (orElse (textsFault s) (limitFault (headerOf s .bodySize)))) (short-refused s h)
+fault-short s h = else-fault (shortFault s) _ 0 (short-refused s h)
 
 pub fault-long : (s : List ℕ) → 58 ≤ length s → headerFault s ≡ orElse (textsFault s) (limitFault (headerOf s .bodySize))
 unfolding headerFault
@@ -136,3 +138,10 @@ pub header-read-refused : (s : List ℕ) → (headerFault s ≡ 0 → ⊥) → h
 unfolding headerRead
 header-read-refused s h =
     ap (λ (t : Bool). cond t (handed (headerOf s)) (refused (headerFault s))) (ne-eqb (headerFault s) 0 h)
+
+-- the number in its answer is the fault's
+pub header-read-number : (s : List ℕ) → headerRead s .number ≡ headerFault s
+header-read-number s =
+    by-zero (headerFault s)
+    (λ e. ap (λ (r : HeaderRead). r .number) (header-read-passed s e) ∙ sym e)
+    (λ z. ap (λ (r : HeaderRead). r .number) (header-read-refused s z))

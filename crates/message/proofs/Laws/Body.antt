@@ -1,7 +1,7 @@
 -- A body is accepted exactly when some sections are written as it; it is read as those sections. Assumes nothing.
 use Prim.Native.Nat.{ℕ, _+_, _-_, _≤_}
 use mathlib.Core.Path.{_≡_, refl, sym, ap, ap₂, _∙_, subst}
-use mathlib.Core.Logic.{_⊎_, inl, inr, ⊎-elim}
+use mathlib.Core.Logic.{inl, inr, ⊎-elim}
 use mathlib.Core.Bool.{Bool, true, false, cond}
 use mathlib.Core.List.{List, [], _∷_, append-nil}
 use native.Mathlib.Omega.{arith}
@@ -17,6 +17,7 @@ use Rattle.fields.proofs.Laws.Numbers.{beVal-beBytes, length-beBytes, beBytes-b
 use Rattle.fields.proofs.Laws.Layout.{join-cut, cut-join, length-join}
 use Rattle.fields.proofs.Laws.Stores.{stores-join}
 use Rattle.fields.proofs.Laws.Checks.{and-split, and-join, cond-pass}
+use Rattle.fields.proofs.Laws.Tests.{is-false}
 use Rattle.message.specs.declared.body.Places.{Places}
 use Rattle.message.specs.Body.{Sections, extendedFields, encodeBody, Plain, Extended, WellSections}
 use Rattle.message.specs.Check.{extendedSize, metadataSize, extendedOk, bodyFault, extendedPlaces, plainPlaces, placesOf, sectionsAt, sectionsOf}
@@ -222,11 +223,7 @@ breaks b h p =
     h
 
 pub not-extended : (b : List ℕ) → (Passed b → ⊥) → extendedOk b ≡ false
-not-extended b h = go (extendedOk b) refl
-  where
-    go : (t : Bool) → extendedOk b ≡ t → extendedOk b ≡ false
-    go true k = absurd (h (passed b k))
-    go false k = k
+not-extended b h = is-false (extendedOk b) (λ k. h (passed b k))
 
 pub extended-refused : (v : ℕ) (b : List ℕ) → v ≡ 2 → BreaksExtended b → bodyFault v b ≡ 6
 extended-refused v b e h = fault-2 v b e ∙ ap (λ (t : Bool). cond t 0 6) (not-extended b (breaks b h))

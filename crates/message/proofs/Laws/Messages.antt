@@ -1,7 +1,7 @@
 -- Messages: the front of a stream is accepted exactly when some message is written as it. Assumes nothing.
 use Prim.Native.Nat.{ℕ, _+_, _^_, _<_, _≤_}
 use mathlib.Core.Path.{_≡_, refl, sym, ap, ap₂, _∙_, subst}
-use mathlib.Core.Logic.{_⊎_, ⊎-elim}
+use mathlib.Core.Logic.{⊎-elim}
 use mathlib.Core.List.{List, _++_}
 use native.Mathlib.Omega.{arith}
 use lib.ListN.{length, take, drop, take-append-drop}
@@ -187,14 +187,11 @@ well-written m room w h =
 begun-take : (s : List ℕ) (m : Message) → Begins s m → take (length (encode m)) s ≡ encode m
 begun-take s m b = ap (take (length (encode m))) (sym (b .bytes)) ∙ take-at (encode m) (b .rest) (length (encode m)) refl
 
-begun-given : (s : List ℕ) (m : Message) → Begins s m → givenBack s (readOf s) ≡ partsOf m
-begun-given s m b = begun-handed s m b
-
 begun-answered : (s : List ℕ) (m : Message) (room : ℕ) → Begins s m → readOf s .step ≤ room → messageWritten (givenBack s (readOf s)) room ≡ Wrote (readOf s .step)
 unfolding messageWritten
 begun-answered s m room b h =
     let k : length (encode m) ≤ room = subst (λ (n : ℕ). n ≤ room) (begun-step s m b) h in
-    ap (λ (p : Parts). messageWritten p room) (begun-given s m b)
+    ap (λ (p : Parts). messageWritten p room) (begun-handed s m b)
     ∙ written-wrote (writeFault (partsOf m) room) (length (encode m)) (well-written m room (b .well) k)
     ∙ ap Wrote (sym (begun-step s m b))
 
@@ -203,7 +200,7 @@ begun-written : (s out : List ℕ) (m : Message) → Begins s m → readOf s .st
 unfolding messageOut
 begun-written s out m b h =
     let k : length (encode m) ≤ length out = subst (λ (n : ℕ). n ≤ length out) (begun-step s m b) h in
-    ap (λ (p : Parts). messageOut p out) (begun-given s m b)
+    ap (λ (p : Parts). messageOut p out) (begun-handed s m b)
     ∙ out-wrote (writeFault (partsOf m) (length out)) (encode m) out (well-written m (length out) (b .well) k)
     ∙ ap (λ (l : List ℕ). l ++ drop (length (encode m)) out) (sym (begun-take s m b))
     ∙ ap (λ (n : ℕ). take n s ++ drop n out) (sym (begun-step s m b))

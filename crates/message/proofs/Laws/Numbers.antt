@@ -1,17 +1,18 @@
 -- Which number the reader and the writer give, in document 01's order. Assumes nothing.
 use Prim.Native.Nat.{ℕ, zero, suc, _+_, _<_, _≤_}
 use mathlib.Core.Path.{_≡_, refl, sym, ap, ap₂, _∙_, subst}
-use mathlib.Core.Logic.{_⊎_, inl, inr, ⊎-elim}
-use mathlib.Core.Bool.{Bool, true, false, true≢false}
+use mathlib.Core.Logic.{inl, inr, ⊎-elim}
+use mathlib.Core.Bool.{false}
 use mathlib.Core.List.{List, [], append-nil}
 use native.Mathlib.Omega.{arith}
-use native.Mathlib.Decide.{decLe}
+use native.Mathlib.Nat.{lt-of-not-le}
 use lib.ListN.{length}
 use Rattle.fields.specs.Bytes.{Bytes}
 use Rattle.fields.specs.Checks.{orElse}
 use Rattle.fields.specs.Answer.{writtenNumber, roomFault}
 use Rattle.fields.proofs.Laws.Bytes.{bytes-part}
-use Rattle.fields.proofs.Laws.Checks.{else-first, else-second}
+use Rattle.fields.proofs.Laws.Checks.{else-fault, else-second}
+use Rattle.fields.proofs.Laws.Tests.{by-test, by-zero, is-false, true-false}
 use Rattle.fields.proofs.Laws.Answer.{written-number, out-refused}
 use Rattle.crc64.specs.Crc.{crcOf}
 use Rattle.crc64.proofs.Laws.{crc-lt}
@@ -31,19 +32,19 @@ use Rattle.message.specs.Writer.{fitOk, sectionsChecks, writeChecks, wri
 use Rattle.message.specs.Bodies.{IsVersion, BreaksExtended}
 use Rattle.message.specs.Numbers.{Whole, Sound, LaidOut, Refusals, Given, Unfit, WriterNumbers}
 use Rattle.header.proofs.Laws.Layout.{header-read, header-number}
-use Rattle.header.proofs.Laws.Faults.{names-pass, names-broken, limit-pass}
+use Rattle.header.proofs.Laws.Faults.{names-pass, names-broken, limit-pass, header-read-number}
 use Rattle.header.proofs.Laws.Headers.{headers}
 use Rattle.metadata.proofs.Laws.Metadatas.{metadatas}
 use Rattle.message.proofs.Laws.Body.{body-well, body-read, extended-refused}
 use Rattle.message.proofs.Laws.Stream.{is-some, whole-refused, version-pass, version-passed, version-refused, checks-version, checks-crc, checks-body, checks-rest, whole-header, whole-body, whole-front, read-number}
-use Rattle.message.proofs.Laws.Read.{front-refused, header-refused, header-fault, body-refused}
+use Rattle.message.proofs.Laws.Read.{front-refused, header-refused, body-refused}
 use Rattle.message.proofs.Laws.Writer.{plain-pass, plain-passed, sizes-passed, fit-passed, well-fit, sections-version, sections-unfit, sections-rest, write-names, write-texts, write-limit, write-rest, parts-number, checks-sections}
 
 -- ---- a refusal before a step is known
 
 header-says : (s : List ℕ) (n : ℕ) → headerRead s ≡ header.refused (suc n) → readOf s ≡ refused (suc n) 0
 header-says s n e =
-    let k : headerFault s ≡ suc n = sym (header-fault s) ∙ ap (λ (r : HeaderRead). r .number) e in
+    let k : headerFault s ≡ suc n = sym (header-read-number s) ∙ ap (λ (r : HeaderRead). r .number) e in
     header-refused s (is-some (headerFault s) n k) ∙ ap (λ (m : ℕ). refused m 0) k
 
 cut-short : (s : List ℕ) (h : Header) → BeginsWith s h → length s < 58 + h .bodySize → readOf s ≡ refused 1 0
@@ -97,7 +98,7 @@ module _ (s : List ℕ) (h : Header) (b : List ℕ) (w : Whole s h b) where
   says-metadata : (x : Sections) → LaidOut h b x → (IsMetadata (x .metadata) → ⊥) → readOf s ≡ refused 7 (58 + h .bodySize)
   says-metadata x l k =
       let e : metadataFault (x .metadata) ≡ 7 = metadatas .refused (x .metadata) (metadata-bytes x l) k in
-      body-says 6 (laid-checks x l ∙ else-first (metadataFault (x .metadata)) _ (is-some _ 6 e) ∙ e)
+      body-says 6 (laid-checks x l ∙ else-fault (metadataFault (x .metadata)) _ 6 e)
 
   says-content : (x : Sections) → LaidOut h b x → IsMetadata (x .metadata) → (contentFault deepest (h .typeText) (x .content) ≡ 0 → ⊥)
       → readOf s ≡ refused (contentFault deepest (h .typeText) (x .content)) (58 + h .bodySize)
@@ -134,7 +135,7 @@ number-fault p room = written-number (writeFault p room) (length (encodeParts p)
 
 checks-say : (p : Parts) (room n : ℕ) → writeChecks p ≡ suc n → writtenNumber (messageWritten p room) ≡ suc n
 unfolding writeFault
-checks-say p room n e = number-fault p room ∙ else-first (writeChecks p) _ (is-some (writeChecks p) n e) ∙ e
+checks-say p room n e = number-fault p room ∙ else-fault (writeChecks p) _ n e
 
 says-names : (p : Parts) (room : ℕ) → (WellTexts (p .typeText) (p .deviceName) → ⊥) → writtenNumber (messageWritten p room) ≡ 2
 says-names p room h =
@@ -149,17 +150,12 @@ unfit-version : (v : ℕ) (x : Sections) → Unfit v x → IsVersion v
 unfit-version v x u = ⊎-elim (λ e. inl (e .0)) (λ e. inr (e .0)) u
 
 unfit-refused : (v : ℕ) (x : Sections) → Unfit v x → fitOk v x ≡ false
-unfit-refused v x u = go (fitOk v x) refl
-  where
-    never : fitOk v x ≡ true → ⊥
-    never k =
-        ⊎-elim (λ e. e .1 (plain-passed v x (λ f. omega (arith, e .0, f)) k))
-        (λ e. let q = sizes-passed v x (e .0) k in ⊎-elim (λ a. omega (arith, q .0)) (λ a. omega (arith, q .1)) (e .1))
-        u
-
-    go : (t : Bool) → fitOk v x ≡ t → fitOk v x ≡ false
-    go true k = absurd (never k)
-    go false k = k
+unfit-refused v x u =
+    is-false (fitOk v x)
+    (λ k.
+    ⊎-elim (λ e. e .1 (plain-passed v x (λ f. omega (arith, e .0, f)) k))
+    (λ e. let q = sizes-passed v x (e .0) k in ⊎-elim (λ a. omega (arith, q .0)) (λ a. omega (arith, q .1)) (e .1))
+    u)
 
 says-unfit : (p : Parts) (room : ℕ) → WellTexts (p .typeText) (p .deviceName) → length (bodyOf p) ≤ limit → Unfit (p .version) (p .sections)
     → writtenNumber (messageWritten p room) ≡ 6
@@ -169,21 +165,9 @@ says-unfit p room t l u =
     ∙ sym (sections-unfit (p .version) (p .typeText) (p .sections) (version-pass (p .version) (unfit-version (p .version) (p .sections) u)) (unfit-refused (p .version) (p .sections) u)))
 
 fit-plain : (v : ℕ) (x : Sections) → v ≡ 1 → (Unfit v x → ⊥) → Plain x
-fit-plain v x e h = go (fitOk v x) refl
-  where
-    two : v ≡ 2 → ⊥
-    two f = omega (arith, e, f)
-
-    go : (t : Bool) → fitOk v x ≡ t → Plain x
-    go true k = plain-passed v x two k
-    go false k = absurd (h (inl (e, λ p. true≢false (sym (plain-pass v x two p) ∙ k))))
-
-below : (a b : ℕ) → (b ≤ a → ⊥) → a < b
-below a b h = go (decLe b a)
-  where
-    go : Dec (b ≤ a) → a < b
-    go (yes p) = absurd (h p)
-    go (no p) = omega arith
+fit-plain v x e h =
+    let two : v ≡ 2 → ⊥ = λ f. omega (arith, e, f) in
+    by-test (fitOk v x) (plain-passed v x two) (λ k. absurd (h (inl (e, λ p. true-false (fitOk v x) (plain-pass v x two p) k))))
 
 fit-well : (p : Parts) → Given p → IsVersion (p .version) → (Unfit (p .version) (p .sections) → ⊥) → WellSections (p .version) (p .sections)
 fit-well p g o h =
@@ -194,8 +178,8 @@ fit-well p g o h =
       record {
         id-fits = g .id-fits;
         further-bytes = g .further-bytes;
-        further-fits = below _ _ (λ k. h (inr (e, inl k)));
-        metadata-fits = below _ _ (λ k. h (inr (e, inr k)));
+        further-fits = lt-of-not-le (λ k. h (inr (e, inl k)));
+        metadata-fits = lt-of-not-le (λ k. h (inr (e, inr k)));
       },
     ))
     o
@@ -203,17 +187,15 @@ fit-well p g o h =
 -- of sections that fit, the writer's checks are the reader's
 same-checks : (p : Parts) → Given p → (Unfit (p .version) (p .sections) → ⊥)
     → sectionsChecks (p .version) (p .typeText) (p .sections) ≡ bodyChecks (p .version) (crcOf (bodyOf p)) (p .typeText) (bodyOf p)
-same-checks p g h = go (versionFault (p .version)) refl
-  where
-    go : (n : ℕ) → versionFault (p .version) ≡ n → sectionsChecks (p .version) (p .typeText) (p .sections) ≡ bodyChecks (p .version) (crcOf (bodyOf p)) (p .typeText) (bodyOf p)
-    go zero e =
-        let w : WellSections (p .version) (p .sections) = fit-well p g (version-passed (p .version) e) h in
-        sym (sections-rest (p .version) (p .typeText) (p .sections) e (fit-passed (p .version) (p .sections) (well-fit (p .version) (p .sections) w)))
-        ∙ sym (checks-sections p w)
-    go (suc n) e =
-        let z = is-some (versionFault (p .version)) n e in
-        sym (sections-version (p .version) (p .typeText) (p .sections) (versionFault (p .version)) refl z)
-        ∙ checks-version (p .version) (crcOf (bodyOf p)) (p .typeText) (bodyOf p) (versionFault (p .version)) refl z
+same-checks p g h =
+    by-zero (versionFault (p .version))
+    (λ e.
+    let w : WellSections (p .version) (p .sections) = fit-well p g (version-passed (p .version) e) h in
+    sym (sections-rest (p .version) (p .typeText) (p .sections) e (fit-passed (p .version) (p .sections) (well-fit (p .version) (p .sections) w)))
+    ∙ sym (checks-sections p w))
+    (λ z.
+    sym (sections-version (p .version) (p .typeText) (p .sections) (versionFault (p .version)) refl z)
+    ∙ checks-version (p .version) (crcOf (bodyOf p)) (p .typeText) (bodyOf p) (versionFault (p .version)) refl z)
 
 given-header : (p : Parts) → Given p → WellTexts (p .typeText) (p .deviceName) → HeaderFits (headerFor p)
 given-header p g t =

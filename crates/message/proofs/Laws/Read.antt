@@ -1,6 +1,6 @@
 -- The reader's answer step by step, as the code makes it: r is what the header's reader answered. Assumes nothing.
-use Prim.Native.Nat.{ℕ, zero, suc, _+_, _<_, _≤_}
-use mathlib.Core.Path.{_≡_, refl, sym, ap, ap₂, _∙_}
+use Prim.Native.Nat.{ℕ, _+_, _<_, _≤_}
+use mathlib.Core.Path.{_≡_, sym, ap, ap₂, _∙_}
 use mathlib.Core.List.{List}
 use native.Mathlib.Omega.{arith}
 use lib.ListN.{length}
@@ -11,7 +11,7 @@ use Rattle.header.specs.declared.HeaderRead.{HeaderRead}
 use Rattle.header.specs.Header.{limit}
 use Rattle.header.specs.Check as header
 use Rattle.header.specs.Check.{headerOf, headerFault, headerRead}
-use Rattle.header.proofs.Laws.Faults.{fault-passed, header-read-passed, header-read-refused}
+use Rattle.header.proofs.Laws.Faults.{fault-passed, header-read-passed, header-read-number}
 use Rattle.message.specs.Check.{versionFault, crcFault, bodyFault, bodyChecks, bodyAt, frontFault, numberOf, placesOf, refused, accepted, readOf}
 use Rattle.message.proofs.Laws.Stream.{is-some, whole-pass, whole-refused, read-accepted, read-refused, step-whole, step-none}
 
@@ -28,14 +28,6 @@ header-refused s h =
     let k : frontFault s ≡ headerFault s = else-first (headerFault s) _ h in
     front-refused s (λ z. h (sym k ∙ z)) ∙ ap (λ (n : ℕ). refused n 0) k
 
--- the number in the header's answer is its fault
-pub header-fault : (s : List ℕ) → headerRead s .number ≡ headerFault s
-header-fault s = go (headerFault s) refl
-  where
-    go : (n : ℕ) → headerFault s ≡ n → headerRead s .number ≡ headerFault s
-    go zero e = ap (λ (r : HeaderRead). r .number) (header-read-passed s e) ∙ sym e
-    go (suc n) e = ap (λ (r : HeaderRead). r .number) (header-read-refused s (is-some (headerFault s) n e))
-
 -- a refusal once the whole is there
 pub body-refused : (s : List ℕ) → frontFault s ≡ 0 → (n : ℕ) → n ≡ bodyChecks (headerOf s .version) (headerOf s .crc) (headerOf s .typeText) (bodyAt s) → (n ≡ 0 → ⊥)
     → refused n (58 + headerOf s .bodySize) ≡ readOf s
@@ -47,11 +39,11 @@ body-refused s z n e h =
 module _ (s : List ℕ) (r : HeaderRead) (e : r ≡ headerRead s) where
   pub says-header : (r .number ≡ 0 → ⊥) → refused (r .number) 0 ≡ readOf s
   says-header h =
-      let k : r .number ≡ headerFault s = ap (λ (q : HeaderRead). q .number) e ∙ header-fault s in
+      let k : r .number ≡ headerFault s = ap (λ (q : HeaderRead). q .number) e ∙ header-read-number s in
       ap (λ (n : ℕ). refused n 0) k ∙ sym (header-refused s (λ z. h (k ∙ z)))
 
   no-fault : r .number ≡ 0 → headerFault s ≡ 0
-  no-fault z = sym (header-fault s) ∙ sym (ap (λ (q : HeaderRead). q .number) e) ∙ z
+  no-fault z = sym (header-read-number s) ∙ sym (ap (λ (q : HeaderRead). q .number) e) ∙ z
 
   pub read-header : r .number ≡ 0 → r ≡ header.handed (headerOf s)
   read-header z = e ∙ header-read-passed s (no-fault z)

@@ -1,8 +1,8 @@
 -- A stream that begins with a header and a body: what the reader finds there, and what passes its checks. Assumes nothing.
-use Prim.Native.Nat.{ℕ, zero, suc, _+_, _-_, _<_, _≤_}
+use Prim.Native.Nat.{ℕ, zero, suc, _+_, _<_, _≤_}
 use mathlib.Core.Path.{_≡_, refl, sym, ap, ap₂, _∙_, subst}
-use mathlib.Core.Logic.{_⊎_, inl, inr, ⊎-elim}
-use mathlib.Core.Bool.{Bool, true, false, cond, _||_, or-true}
+use mathlib.Core.Logic.{inl, inr, ⊎-elim}
+use mathlib.Core.Bool.{Bool, cond, _||_, or-true}
 use mathlib.Core.List.{List, _++_}
 use native.Mathlib.Omega.{arith}
 use lib.Dec.{eqb, leb}
@@ -12,7 +12,8 @@ use borrow.Author.Tests.{eqb-true, eqb-false, leb-true, le-leb, lt-leb, eq-eqb, 
 use Rattle.fields.specs.Bytes.{Bytes, part}
 use Rattle.fields.specs.Checks.{orElse}
 use Rattle.fields.proofs.Laws.Bytes.{length-part, bytes-part, part-part}
-use Rattle.fields.proofs.Laws.Checks.{zero-else, else-first, else-second, cond-pass, or-split}
+use Rattle.fields.proofs.Laws.Checks.{zero-else, else-first, else-fault, else-second, cond-pass, or-split}
+use Rattle.fields.proofs.Laws.Tests.{by-test, by-zero}
 use Rattle.crc64.specs.Crc.{crcOf}
 use Rattle.header.specs.Header.{Header, HeaderFits, encodeHeader}
 use Rattle.header.specs.Check as header
@@ -83,7 +84,7 @@ module _ (v crc : ℕ) (t b : List ℕ) where
   unfolding bodyChecks
   checks-crc e h =
       let k : crcFault crc b ≡ 5 = crc-refused crc b h in
-      sym (else-second (versionFault v) _ e ∙ else-first (crcFault crc b) _ (is-some (crcFault crc b) 4 k) ∙ k)
+      sym (else-second (versionFault v) _ e ∙ else-fault (crcFault crc b) _ 4 k)
 
   pub checks-sound : versionFault v ≡ 0 → crcOf b ≡ crc → bodyChecks v crc t b ≡ orElse (bodyFault v b) (sectionsFault t (sectionsOf v b))
   unfolding bodyChecks
@@ -179,11 +180,10 @@ read-refused s h =
     ap (λ (t : Bool). cond t (accepted (header.handed (headerOf s)) (placesOf (headerOf s .version) (bodyAt s))) (refused (numberOf s) (stepOf s))) (ne-eqb (numberOf s) 0 h)
 
 pub read-number : (s : List ℕ) → readOf s .number ≡ numberOf s
-read-number s = go (numberOf s) refl
-  where
-    go : (n : ℕ) → numberOf s ≡ n → readOf s .number ≡ numberOf s
-    go zero e = ap (λ (a : Answer). a .number) (read-accepted s e) ∙ sym e
-    go (suc n) e = ap (λ (a : Answer). a .number) (read-refused s (is-some (numberOf s) n e))
+read-number s =
+    by-zero (numberOf s)
+    (λ e. ap (λ (a : Answer). a .number) (read-accepted s e) ∙ sym e)
+    (λ z. ap (λ (a : Answer). a .number) (read-refused s z))
 
 pub number-read : (s : List ℕ) → readOf s .number ≡ 0 → numberOf s ≡ 0
 number-read s h = sym (read-number s) ∙ h
@@ -197,19 +197,17 @@ unfolding stepOf
 step-none s h = ap (λ (t : Bool). cond t (58 + headerOf s .bodySize) 0) (ne-eqb (frontFault s) 0 h)
 
 pub read-step : (s : List ℕ) → readOf s .step ≡ stepOf s
-read-step s = go (numberOf s) refl
-  where
-    go : (n : ℕ) → numberOf s ≡ n → readOf s .step ≡ stepOf s
-    go zero e = ap (λ (a : Answer). a .step) (read-accepted s e) ∙ sym (step-whole s (front-passed s e))
-    go (suc n) e = ap (λ (a : Answer). a .step) (read-refused s (is-some (numberOf s) n e))
+read-step s =
+    by-zero (numberOf s)
+    (λ e. ap (λ (a : Answer). a .step) (read-accepted s e) ∙ sym (step-whole s (front-passed s e)))
+    (λ z. ap (λ (a : Answer). a .step) (read-refused s z))
 
 -- the step never leads past the stream's end
 pub step-within : (s : List ℕ) → readOf s .step ≤ length s
-step-within s = go (frontFault s) refl
-  where
-    go : (n : ℕ) → frontFault s ≡ n → readOf s .step ≤ length s
-    go zero e = omega (arith, read-step s, step-whole s e, front-whole s e)
-    go (suc n) e = omega (arith, read-step s, step-none s (is-some (frontFault s) n e))
+step-within s =
+    by-zero (frontFault s)
+    (λ e. omega (arith, read-step s, step-whole s e, front-whole s e))
+    (λ z. omega (arith, read-step s, step-none s z))
 
 -- ---- what the answer hands out
 
@@ -231,16 +229,15 @@ pub record Within (p : Places) (n : ℕ) : Type 0 where
   pub metadata : p .«metadata_at» + p .«metadata_len» ≤ n
 
 pub places-within : (v : ℕ) (b : List ℕ) → bodyFault v b ≡ 0 → Within (placesOf v b) (length b)
-places-within v b h = go (eqb v 2) refl
-  where
-    go : (t : Bool) → eqb v 2 ≡ t → Within (placesOf v b) (length b)
-    go true e =
-        let q : Passed b = passed-2 v b (eqb-true v 2 e) h in
-        subst (λ (p : Places). Within p (length b)) (sym (places-2 v b (eqb-true v 2 e)))
-        (record { further = omega (arith, q .size, q .fits); content = omega (arith, q .fits); metadata = omega (arith, q .fits) })
-    go false e =
-        subst (λ (p : Places). Within p (length b)) (sym (places-1 v b (eqb-false v 2 e)))
-        (record { further = omega arith; content = omega arith; metadata = omega arith })
+places-within v b h =
+    by-test (eqb v 2)
+    (λ e.
+    let q : Passed b = passed-2 v b (eqb-true v 2 e) h in
+    subst (λ (p : Places). Within p (length b)) (sym (places-2 v b (eqb-true v 2 e)))
+    (record { further = omega (arith, q .size, q .fits); content = omega (arith, q .fits); metadata = omega (arith, q .fits) }))
+    (λ e.
+    subst (λ (p : Places). Within p (length b)) (sym (places-1 v b (eqb-false v 2 e)))
+    (record { further = omega arith; content = omega arith; metadata = omega arith }))
 
 -- a section of the body, cut from the stream
 section-part : (s : List ℕ) (n at len : ℕ) → at + len ≤ n → part len (58 + at) s ≡ part len at (part n 58 s)

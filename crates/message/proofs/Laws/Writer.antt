@@ -1,7 +1,7 @@
 -- The writer's checks: what passes them, and how they stand to the reader's. Assumes nothing.
 use Prim.Native.Nat.{ℕ, _+_, _<_, _≤_}
 use mathlib.Core.Path.{_≡_, refl, sym, ap, ap₂, _∙_}
-use mathlib.Core.Logic.{_⊎_, inl, inr, ⊎-elim}
+use mathlib.Core.Logic.{inl, inr, ⊎-elim}
 use mathlib.Core.Bool.{Bool, true, false, cond, _&&_}
 use mathlib.Core.List.{List, [], _++_, append-assoc, append-nil}
 use native.Mathlib.Omega.{arith}
@@ -14,7 +14,8 @@ use Rattle.fields.specs.Bytes.{part}
 use Rattle.fields.specs.Checks.{orElse}
 use Rattle.fields.proofs.Laws.Bytes.{length-part}
 use Rattle.fields.proofs.Laws.Stores.{sets-front}
-use Rattle.fields.proofs.Laws.Checks.{zero-else, else-zero, else-first, else-second, cond-pass, and-split, and-join}
+use Rattle.fields.proofs.Laws.Checks.{zero-else, else-zero, else-first, else-fault, else-second, cond-pass, and-split, and-join}
+use Rattle.fields.proofs.Laws.Tests.{by-test}
 use Rattle.fields.proofs.Laws.Answer.{written-wrote, written-refused, out-wrote, out-refused, room-enough, room-short}
 use Rattle.fields.specs.declared.Written.the-variants.{Wrote, Refused}
 use Rattle.crc64.specs.Crc.{crcOf}
@@ -30,7 +31,7 @@ use Rattle.header.proofs.Laws.Layout.{length-header}
 use Rattle.header.proofs.Laws.Writer.{write-room, out-header}
 use Rattle.header.proofs.Laws.Faults.{limit-pass, limit-passed, limit-refused}
 use Rattle.message.proofs.Laws.Body.{body-well, body-read, length-1, length-2}
-use Rattle.message.proofs.Laws.Stream.{is-some, version-pass, checks-rest, whole-number}
+use Rattle.message.proofs.Laws.Stream.{version-pass, checks-rest, whole-number}
 
 -- ---- check 6
 
@@ -82,15 +83,14 @@ module _ (v f c m : ℕ) where
       go false = omega arith
 
 pub length-body : (v : ℕ) (x : Sections) → length (encodeBody v x) ≡ bodyLength v (length (x .further)) (length (x .content)) (length (x .metadata))
-length-body v x = go (eqb v 2) refl
-  where
-    go : (t : Bool) → eqb v 2 ≡ t → length (encodeBody v x) ≡ bodyLength v (length (x .further)) (length (x .content)) (length (x .metadata))
-    go true e =
-        let k : v ≡ 2 = eqb-true v 2 e in
-        length-2 v x k ∙ sym (long-2 v (length (x .further)) (length (x .content)) (length (x .metadata)) k)
-    go false e =
-        let k : v ≡ 2 → ⊥ = eqb-false v 2 e in
-        length-1 v x k ∙ sym (long-1 v (length (x .further)) (length (x .content)) (length (x .metadata)) k)
+length-body v x =
+    by-test (eqb v 2)
+    (λ e.
+    let k : v ≡ 2 = eqb-true v 2 e in
+    length-2 v x k ∙ sym (long-2 v (length (x .further)) (length (x .content)) (length (x .metadata)) k))
+    (λ e.
+    let k : v ≡ 2 → ⊥ = eqb-false v 2 e in
+    length-1 v x k ∙ sym (long-1 v (length (x .further)) (length (x .content)) (length (x .metadata)) k))
 
 empty : (s : List ℕ) → length s ≡ 0 → s ≡ []
 empty s h = sym (take-all 0 s (omega arith))
@@ -156,7 +156,7 @@ module _ (v : ℕ) (t : List ℕ) (x : Sections) where
   unfolding sectionsChecks
   sections-unfit e h =
       let k : fitFault v x ≡ 6 = fit-refused v x h in
-      sym (else-second (versionFault v) _ e ∙ else-first (fitFault v x) _ (is-some (fitFault v x) 5 k) ∙ k)
+      sym (else-second (versionFault v) _ e ∙ else-fault (fitFault v x) _ 5 k)
 
   pub sections-rest : versionFault v ≡ 0 → fitOk v x ≡ true → sectionsFault t x ≡ sectionsChecks v t x
   unfolding sectionsChecks
@@ -182,7 +182,7 @@ module _ (p : Parts) where
   pub write-limit : namesFault (p .typeText) (p .deviceName) ≡ 0 → limit < length (bodyOf p) → 3 ≡ writeChecks p
   write-limit e h =
       let k : limitFault (length (bodyOf p)) ≡ 3 = limit-refused (length (bodyOf p)) h in
-      sym (write-texts e ∙ else-first (limitFault (length (bodyOf p))) _ (is-some (limitFault (length (bodyOf p))) 2 k) ∙ k)
+      sym (write-texts e ∙ else-fault (limitFault (length (bodyOf p))) _ 2 k)
 
   pub write-rest : namesFault (p .typeText) (p .deviceName) ≡ 0 → length (bodyOf p) ≤ limit
       → sectionsChecks (p .version) (p .typeText) (p .sections) ≡ writeChecks p

@@ -1,25 +1,24 @@
 -- Look-ups in an accepted section give its entries: those of the metadata that is written as it. Assumes nothing.
 use Prim.Native.Nat.{ℕ, suc, _+_, _-_, _*_, _^_, _<_}
 use mathlib.Core.Path.{_≡_, refl, sym, ap, ap₂, subst, _∙_}
-use mathlib.Core.Bool.{Bool, true, false}
 use mathlib.Core.List.{List, [], _∷_, _++_, append-nil}
 use native.Mathlib.Omega.{arith}
-use lib.Dec.{eqb}
 use lib.ListN.{length, take, drop, length-append}
 use lib.Seq.{take-at, drop-at, drop-drop}
-use borrow.Author.Tests.{eq-eqb, ne-eqb, eqb-true, eqb-false}
+use borrow.Author.Tests.{eq-eqb, ne-eqb}
 use Rattle.fields.specs.Bytes.{part, same}
 use Rattle.fields.specs.Lists.{Each, flat}
 use Rattle.fields.specs.Numbers.{beVal}
 use Rattle.fields.proofs.Laws.Bytes.{same-refl, not-same}
-use Rattle.fields.proofs.Laws.Lists.{flat-append, each-middle}
+use Rattle.fields.proofs.Laws.Lists.{flat-cons, flat-append, each-middle}
+use Rattle.fields.proofs.Laws.Tests.{by-zero}
 use Rattle.metadata.specs.declared.ValuePlace.{ValuePlace}
 use Rattle.metadata.specs.Metadata.{Entry, Metadata, absent, section, entryHeader, entryData, encodeMetadata, WellEntry, WellMetadata}
 use Rattle.metadata.specs.Check.{count, headersOf, dataOf, metadataFault}
 use Rattle.metadata.specs.Lookup.{refused, placeIn, searched, valuePlace, valueOf}
 use Rattle.metadata.specs.Lookups.{entriesOf, HasEntries, NoneKeyed, FirstKeyed, placeAmong, ValueLookups}
 use Rattle.metadata.proofs.Laws.Entries.{length-entryData, header-rest, header-key, header-encoding, header-value, data-past-key}
-use Rattle.metadata.proofs.Laws.Written.{headers-front, data-first, key-written, rest-written, length-written, count-written, headers-written, data-written}
+use Rattle.metadata.proofs.Laws.Written.{data-first, key-written, rest-written, length-written, count-written, headers-written, data-written}
 use Rattle.metadata.proofs.Laws.Metadatas.{metadatas}
 use Rattle.metadata.proofs.Laws.Search.{search-end, search-found, search-next, search-refused}
 use Rattle.metadata.proofs.Laws.Cases.{found-or-none}
@@ -37,16 +36,15 @@ module _ (s x : List ℕ) where
 
   -- a refused look-up hands back an empty part
   empty-value : (valuePlace s x .number ≡ 0 → ⊥) → valueOf s x ≡ []
-  empty-value z = go (eqb (metadataFault s) 0) refl
+  empty-value z =
+      by-zero (metadataFault s)
+      (λ e.
+      let f = place-accepted e in
+      none 19 (f ∙ search-refused (length s) (count s) (headersOf s) (dataOf s) x (λ q. z (ap (λ (p : ValuePlace). p .number) f ∙ q))))
+      (λ e. none (metadataFault s) (place-refused e))
     where
       none : (n : ℕ) → valuePlace s x ≡ refused n → valueOf s x ≡ []
       none n e = ap (λ (p : ValuePlace). part (p .len) (p .at) s) e
-
-      go : (t : Bool) → eqb (metadataFault s) 0 ≡ t → valueOf s x ≡ []
-      go true e =
-          let f = place-accepted (eqb-true (metadataFault s) 0 e) in
-          none 19 (f ∙ search-refused (length s) (count s) (headersOf s) (dataOf s) x (λ q. z (ap (λ (p : ValuePlace). p .number) f ∙ q)))
-      go false e = none (metadataFault s) (place-refused (eqb-false (metadataFault s) 0 e))
 
 -- ---- the search over what entries are written as, and further bytes r
 
@@ -60,7 +58,7 @@ module _ (n : ℕ) (x : List ℕ) (r : List ℕ) where
     headers = flat entryHeader es ++ r
 
     among-front : among (e ∷ es) ≡ placeIn n (suc (length es)) (entryHeader e ++ headers) (entryData e ++ flat entryData es) x
-    among-front = ap₂ (λ (h d : List ℕ). placeIn n (suc (length es)) h d x) (headers-front e es r) (data-first e es)
+    among-front = ap₂ (λ (h d : List ℕ). placeIn n (suc (length es)) h d x) (flat-cons entryHeader e es r) (data-first e es)
 
     among-found : e .key ≡ x
         → among (e ∷ es) ≡ record { number = 0; encoding = e .encoding; at = n - length (e .value ++ flat entryData es); len = length (e .value) }

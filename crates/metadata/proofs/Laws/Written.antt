@@ -2,7 +2,7 @@
 use Prim.Native.Nat.{ℕ, suc, _+_, _*_, _^_, _≤_, _<_}
 use mathlib.Core.Path.{_≡_, refl, sym, ap, ap₂, _∙_}
 use mathlib.Core.Bool.{true}
-use mathlib.Core.List.{List, [], _∷_, _++_, append-assoc}
+use mathlib.Core.List.{List, [], _∷_, _++_}
 use native.Mathlib.Omega.{arith}
 use lib.ListN.{length, take, drop, length-append}
 use lib.Seq.{take-at, drop-at, drop-drop}
@@ -12,6 +12,7 @@ use Rattle.fields.specs.Lists.{Each, flat}
 use Rattle.fields.specs.Numbers.{beVal, beBytes}
 use Rattle.fields.specs.Text.{isText}
 use Rattle.fields.proofs.Laws.Checks.{and-join}
+use Rattle.fields.proofs.Laws.Lists.{flat-cons, length-flat}
 use Rattle.fields.proofs.Laws.Numbers.{length-beBytes, beVal-beBytes}
 use Rattle.fields.proofs.Laws.Text.{text-is}
 use Rattle.metadata.specs.Metadata.{Entry, section, entryHeader, entryData, encodeMetadata, WellEntry}
@@ -19,19 +20,12 @@ use Rattle.metadata.specs.Check.{count, keySize, entrySize, entryOk, ent
 use Rattle.metadata.proofs.Laws.Entries.{entryAt, entriesFrom, length-entryHeader, length-entryData, header-rest, header-key, header-encoding, header-value, data-key, data-value, data-rest}
 
 pub length-headers : (es : List Entry) → length (flat entryHeader es) ≡ 8 * length es
+length-headers es = length-flat entryHeader 8 length-entryHeader es
+
+-- the first entry's key and value in front of the others'
+pub data-first : (e : Entry) (es : List Entry) → flat entryData (e ∷ es) ≡ entryData e ++ flat entryData es
 unfolding flat
-length-headers [] = refl
-length-headers (e ∷ es) = omega (arith, length-append (entryHeader e) (flat entryHeader es), length-entryHeader e, length-headers es)
-
--- the first entry's header, key and value in front of the others'
-module _ (e : Entry) (es : List Entry) where
-  pub headers-front : (r : List ℕ) → flat entryHeader (e ∷ es) ++ r ≡ entryHeader e ++ (flat entryHeader es ++ r)
-  unfolding flat
-  headers-front r = append-assoc (entryHeader e) (flat entryHeader es) r
-
-  pub data-first : flat entryData (e ∷ es) ≡ entryData e ++ flat entryData es
-  unfolding flat
-  data-first = refl
+data-first e es = refl
 
 -- an entry, with further headers h and data d
 module _ (e : Entry) (w : WellEntry e) (h d : List ℕ) where
@@ -67,7 +61,7 @@ entries-written [] w r = refl
 entries-written (e ∷ es) w r =
     let h = flat entryHeader es ++ r in
     let d = flat entryData es in
-    ap (λ (l : List ℕ). entriesOk (suc (length es)) l (entryData e ++ d)) (headers-front e es r)
+    ap (λ (l : List ℕ). entriesOk (suc (length es)) l (entryData e ++ d)) (flat-cons entryHeader e es r)
     ∙ and-join _ _ (entry-written e (w .0) h d)
     (ap₂ (entriesOk (length es)) (header-rest e h) (rest-written e (w .0) h d) ∙ entries-written es (w .1) r)
 
@@ -77,7 +71,7 @@ read-back [] w r = refl
 read-back (e ∷ es) w r =
     let h = flat entryHeader es ++ r in
     let d = flat entryData es in
-    ap (λ (l : List ℕ). entriesFrom (suc (length es)) l (entryData e ++ d)) (headers-front e es r)
+    ap (λ (l : List ℕ). entriesFrom (suc (length es)) l (entryData e ++ d)) (flat-cons entryHeader e es r)
     ∙ ap₂ {C = List Entry} (λ x xs. x ∷ xs) (entry-back e (w .0) h d)
     (ap₂ (entriesFrom (length es)) (header-rest e h) (rest-written e (w .0) h d) ∙ read-back es (w .1) r)
 
