@@ -1,4 +1,4 @@
--- What is proved of the writer of a BIND. Assumes nothing.
+-- What is proved of the writer of a BIND.
 use Prim.Native.Nat.{ℕ, _^_, _≤_, _<_}
 use mathlib.Core.Path.{_≡_, refl, sym, ap, subst, _∙_}
 use mathlib.Core.Bool.{true}
@@ -26,19 +26,19 @@ use Rattle.content.specs.Contents.{firstFault}
 use Rattle.content.proofs.Laws.Faults.{bind-content, bind-written}
 use Rattle.content.proofs.Laws.Contents.{content-well}
 use Rattle.bind_writer.specs.Lists.{children, typesOf, namesOf, contentsOf, SizesFit}
-use Rattle.bind_writer.specs.Writer.{typeGood, textsGood, layoutGood, childFault, writeFault, bindWritten, bindOut}
+use Rattle.bind_writer.specs.Writer.{typeOk, textsOk, listsOk, childFault, writeFault, bindWritten, bindOut}
 use Rattle.bind_writer.specs.BindWriters.{Writable, countOf, bytesOf, ReadBack, BindWriters}
 use Rattle.bind_writer.proofs.Laws.Children.{lists-of, children-of}
-use Rattle.bind_writer.proofs.Laws.Layout.{laid, laid-good}
+use Rattle.bind_writer.proofs.Laws.Layout.{lists-passed, lists-pass}
 use Rattle.bind_writer.proofs.Laws.Encoding.{length-children}
 use Rattle.bind_writer.proofs.Laws.Faults.{by-lists, past-lists, passed}
 
 -- ---- which lists can be written
 
 -- the test of a child's texts, and the rules that it tests
-good-child : (c : Child) → textsGood c ≡ true → length (c .content) < 256 ^ 8 → WellChild c
-good-child c h s =
-    let k = and-split (typeGood (c .typeText)) (isText (c .name)) h in
+well-child : (c : Child) → textsOk c ≡ true → length (c .content) < 256 ^ 8 → WellChild c
+well-child c h s =
+    let k = and-split (typeOk (c .typeText)) (isText (c .name)) h in
     let t = and-split (leb (length (c .typeText)) _) (isText (c .typeText)) (k .0) in
     record {
       type-text = is-text (c .typeText) (t .1);
@@ -47,23 +47,23 @@ good-child c h s =
       size-fits = s;
     }
 
-child-good : (c : Child) → WellChild c → textsGood c ≡ true
-child-good c w =
-    and-join (typeGood (c .typeText)) (isText (c .name))
+child-ok : (c : Child) → WellChild c → textsOk c ≡ true
+child-ok c w =
+    and-join (typeOk (c .typeText)) (isText (c .name))
     (and-join (leb (length (c .typeText)) _) (isText (c .typeText)) (le-leb (length (c .typeText)) _ (w .type-fits)) (text-is (c .typeText) (w .type-text)))
     (text-is (c .name) (w .name-text))
 
-good-children : (cs : List Child) → all textsGood cs ≡ true → SizesFit (contentsOf cs) → Each WellChild cs
+well-children : (cs : List Child) → all textsOk cs ≡ true → SizesFit (contentsOf cs) → Each WellChild cs
 unfolding all
-good-children [] h s = tt
-good-children (c ∷ cs) h s =
-    let k = and-split (textsGood c) (all textsGood cs) h in
-    (good-child c (k .0) (s .0), good-children cs (k .1) (s .1))
+well-children [] h s = tt
+well-children (c ∷ cs) h s =
+    let k = and-split (textsOk c) (all textsOk cs) h in
+    (well-child c (k .0) (s .0), well-children cs (k .1) (s .1))
 
 module _ (ts ns ds : List (List ℕ)) where
-  lists-passed : SizesFit ds → layoutGood ts ns ds ≡ true → Writable ts ns ds
-  lists-passed s h =
-      let l = laid ts ns ds h in
+  lists-writable : SizesFit ds → listsOk ts ns ds ≡ true → Writable ts ns ds
+  lists-writable s h =
+      let l = lists-passed ts ns ds h in
       let n = length-children ts ns ds (l .count) in
       record {
         count = l .count;
@@ -71,17 +71,17 @@ module _ (ts ns ds : List (List ℕ)) where
             record {
               count-fits = omega (arith, leb-true (length ts) _ (l .few), n);
               table-fits = omega (arith, leb-true (length (nameTable (children ts ns ds))) _ (l .table));
-              each = good-children (children ts ns ds) (l .texts) (subst SizesFit (sym (lists-of ts ns ds (l .count) .2)) s);
+              each = well-children (children ts ns ds) (l .texts) (subst SizesFit (sym (lists-of ts ns ds (l .count) .2)) s);
             };
       }
 
-  lists-pass : Writable ts ns ds → layoutGood ts ns ds ≡ true
-  lists-pass w =
-      laid-good ts ns ds
+  writable-pass : Writable ts ns ds → listsOk ts ns ds ≡ true
+  writable-pass w =
+      lists-pass ts ns ds
       (record {
         count = w .count;
         few = le-leb (length ts) _ (omega (arith, w .well .count-fits, length-children ts ns ds (w .count)));
-        texts = each-all textsGood WellChild child-good (children ts ns ds) (w .well .each);
+        texts = each-all textsOk WellChild child-ok (children ts ns ds) (w .well .each);
         table = le-leb (length (nameTable (children ts ns ds))) _ (omega (arith, w .well .table-fits));
       })
 
@@ -93,7 +93,7 @@ module _ (ts ns ds : List (List ℕ)) (room : ℕ) where
   number = written-number (writeFault ts ns ds room) _
 
   number-refused : SizesFit ds → (Writable ts ns ds → ⊥) → writtenNumber (bindWritten ts ns ds room) ≡ 10
-  number-refused s n = number ∙ by-lists ts ns ds room (is-false (layoutGood ts ns ds) (λ e. n (lists-passed ts ns ds s e)))
+  number-refused s n = number ∙ by-lists ts ns ds room (is-false (listsOk ts ns ds) (λ e. n (lists-writable ts ns ds s e)))
 
   -- the reader's number for what would be written is the first fault of the children
   reader : WellBundle (children ts ns ds) → bindFault deepest (encodeChildren (children ts ns ds)) ≡ firstFault childFault (children ts ns ds)
@@ -104,7 +104,7 @@ module _ (ts ns ds : List (List ℕ)) (room : ℕ) where
       ≡ orElse (bindFault deepest (encodeChildren (children ts ns ds))) (roomFault (length (encodeChildren (children ts ns ds))) room)
   number-reader w =
       number
-      ∙ past-lists ts ns ds room (lists-pass ts ns ds w)
+      ∙ past-lists ts ns ds room (writable-pass ts ns ds w)
       ∙ ap (λ (n : ℕ). orElse n (roomFault (length (encodeChildren (children ts ns ds))) room)) (sym (reader (w .well)))
 
 -- ---- the buffer
@@ -145,7 +145,7 @@ module _ (ts ns ds : List (List ℕ)) (out : List ℕ) where
     wrote : SizesFit ds → ReadBack ts ns ds out
     wrote s =
         let p = passed ts ns ds (length out) z in
-        let w = lists-passed ts ns ds s (p .layout) .well in
+        let w = lists-writable ts ns ds s (p .lists) .well in
         record {
           count = count-wrote;
           bytes = bytes-wrote;
@@ -201,8 +201,8 @@ module _ (cs : Children) (out : List ℕ) (w : WellFormed (bind cs) deepest) (h 
 pub bind-writers : BindWriters
 bind-writers =
     record {
-      passed = lists-passed;
-      passes = lists-pass;
+      passed = lists-writable;
+      passes = writable-pass;
       refused = number-refused;
       as-reader = number-reader;
       untouched = buffer-kept;

@@ -11,7 +11,7 @@ use Rattle.bundle.specs.Children.{Child, encodeChildren, WellBundle}
 use Rattle.content.specs.Tree.{Children, bind, encode, childList, WellFormed}
 use Rattle.content.specs.Check.{bindFault, deepest}
 use Rattle.bind_writer.specs.Lists.{children, typesOf, namesOf, contentsOf, SameCount, SizesFit}
-use Rattle.bind_writer.specs.Writer.{layoutGood, bindWritten, bindOut}
+use Rattle.bind_writer.specs.Writer.{listsOk, bindWritten, bindOut}
 
 -- the lists give children that can be written
 pub record Writable (ts ns ds : List (List ℕ)) : Type 0 where
@@ -36,8 +36,8 @@ pub record ReadBack (ts ns ds : List (List ℕ)) (out : List ℕ) : Type 0 where
 
 pub record BindWriters : Type 0 where
   -- the check of the lists passes exactly where they can be written; else the answer is 10, whatever the contents and the room
-  pub passed : (ts ns ds : List (List ℕ)) → SizesFit ds → layoutGood ts ns ds ≡ true → Writable ts ns ds
-  pub passes : (ts ns ds : List (List ℕ)) → Writable ts ns ds → layoutGood ts ns ds ≡ true
+  pub passed : (ts ns ds : List (List ℕ)) → SizesFit ds → listsOk ts ns ds ≡ true → Writable ts ns ds
+  pub passes : (ts ns ds : List (List ℕ)) → Writable ts ns ds → listsOk ts ns ds ≡ true
   pub refused : (ts ns ds : List (List ℕ)) (room : ℕ) → SizesFit ds → (Writable ts ns ds → ⊥) → writtenNumber (bindWritten ts ns ds room) ≡ 10
   -- of what can be written, the number is the reader's for the bytes that would be written, then 20
   pub as-reader : (ts ns ds : List (List ℕ)) (room : ℕ) → Writable ts ns ds

@@ -15,12 +15,12 @@ use Rattle.content.specs.Contents.{firstFault}
 use Rattle.bind_writer.specs.Lists.{children}
 
 -- the type is a text of at most 12 bytes
-abbrev pub typeGood : List ℕ → Bool
-typeGood t = leb (length t) 12 && isText t
+abbrev pub typeOk : List ℕ → Bool
+typeOk t = leb (length t) 12 && isText t
 
 -- and the name is a text
-abbrev pub textsGood : Child → Bool
-textsGood c = typeGood (c .typeText) && isText (c .name)
+abbrev pub textsOk : Child → Bool
+textsOk c = typeOk (c .typeText) && isText (c .name)
 
 -- the count and the name table, with its pad, fit their size fields
 abbrev pub countFits : List (List ℕ) → Bool
@@ -30,17 +30,17 @@ abbrev pub tableFits : List Child → Bool
 tableFits cs = leb (length (nameTable cs)) 65535
 
 -- three lists of one length, of texts that fit, not too many and not too long together
-unfoldable pub layoutGood : List (List ℕ) → List (List ℕ) → List (List ℕ) → Bool
-layoutGood ts ns ds =
+unfoldable pub listsOk : List (List ℕ) → List (List ℕ) → List (List ℕ) → Bool
+listsOk ts ns ds =
     eqb (length ns) (length ts)
     && (eqb (length ds) (length ts)
     && (countFits ts
-    && (all textsGood (children ts ns ds)
+    && (all textsOk (children ts ns ds)
     && tableFits (children ts ns ds))))
 
--- 10 for each fault of the layout
+-- 10 for each fault of the lists
 unfoldable pub listsFault : List (List ℕ) → List (List ℕ) → List (List ℕ) → ℕ
-listsFault ts ns ds = cond (layoutGood ts ns ds) 0 10
+listsFault ts ns ds = cond (listsOk ts ns ds) 0 10
 
 -- the BIND that is written is level 1, its children are level 2
 abbrev pub childFault : Child → ℕ
@@ -50,7 +50,7 @@ childFault c = contentFault nestedLevels (c .typeText) (c .content)
 abbrev pub spaceFault : List (List ℕ) → List (List ℕ) → List (List ℕ) → ℕ → ℕ
 spaceFault ts ns ds room = roomFault (length (encodeChildren (children ts ns ds))) room
 
--- the layout, then the children in order, then 20
+-- the lists, then the children in order, then 20
 unfoldable pub writeFault : List (List ℕ) → List (List ℕ) → List (List ℕ) → ℕ → ℕ
 writeFault ts ns ds room =
     orElse (listsFault ts ns ds) (orElse (firstFault childFault (children ts ns ds)) (spaceFault ts ns ds room))

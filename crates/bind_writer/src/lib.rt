@@ -14,28 +14,28 @@ ghost use Rattle.bundle.specs.Children.{padded, childHeader, encodeChildren, en
 ghost use Rattle.content.specs.Check.{contentFault, nestedLevels};
 ghost use Rattle.content.specs.Contents.{firstFault};
 ghost use Rattle.bind_writer.specs.Lists.{children, WithNames, WithContents};
-ghost use Rattle.bind_writer.specs.Writer.{typeGood, textsGood, layoutGood, childFault, spaceFault, writeFault, bindWritten, bindOut};
+ghost use Rattle.bind_writer.specs.Writer.{typeOk, textsOk, listsOk, childFault, spaceFault, writeFault, bindWritten, bindOut};
 
 // Is it a text that a CTYPE of 12 bytes holds?
-fn type_good(text: &[u8]) -> bool
-    ensures { λ r. ⌜ r ≡ typeGood (now (text .entry)) ⌝ }
+fn type_ok(type_text: &[u8]) -> bool
+    ensures { λ r. ⌜ r ≡ typeOk (now («type_text» .entry)) ⌝ }
 {
-    if 12 < text.len() {
+    if 12 < type_text.len() {
         return false;
     }
-    fields::text::is_text(text)
+    fields::text::is_text(type_text)
 }
 
 // Are the types and the names of the children such texts? A name has no limit of its own.
-fn texts_good(types: &[&[u8]], names: &[&[u8]]) -> bool
+fn texts_ok(types: &[&[u8]], names: &[&[u8]]) -> bool
     requires { ⌜ length (now names) ≡ length (now types) ⌝ }
-    ensures { λ r. ⌜ WithNames (map now (now (types .entry))) (map now (now (names .entry))) (λ cs. r ≡ all textsGood cs) ⌝ }
+    ensures { λ r. ⌜ WithNames (map now (now (types .entry))) (map now (now (names .entry))) (λ cs. r ≡ all textsOk cs) ⌝ }
 {
     let mut i = 0;
     while i < types.len() {
-        let text = types[i];
+        let type_text = types[i];
         let name = names[i];
-        if !type_good(text) {
+        if !type_ok(type_text) {
             return false;
         }
         if !fields::text::is_text(name) {
@@ -65,8 +65,8 @@ fn names_len(names: &[&[u8]]) -> usize
 }
 
 // The lists are of one length, hold texts, and their count and name table fit two bytes each.
-fn layout_good(types: &[&[u8]], names: &[&[u8]], contents: &[&[u8]]) -> bool
-    ensures { λ r. ⌜ r ≡ layoutGood (map now (now (types .entry))) (map now (now (names .entry))) (map now (now (contents .entry))) ⌝ }
+fn lists_ok(types: &[&[u8]], names: &[&[u8]], contents: &[&[u8]]) -> bool
+    ensures { λ r. ⌜ r ≡ listsOk (map now (now (types .entry))) (map now (now (names .entry))) (map now (now (contents .entry))) ⌝ }
 {
     if names.len() != types.len() {
         return false;
@@ -77,7 +77,7 @@ fn layout_good(types: &[&[u8]], names: &[&[u8]], contents: &[&[u8]]) -> bool
     if 65535 < types.len() {
         return false;
     }
-    if !texts_good(types, names) {
+    if !texts_ok(types, names) {
         return false;
     }
     let n = names_len(names);
@@ -88,10 +88,10 @@ fn layout_good(types: &[&[u8]], names: &[&[u8]], contents: &[&[u8]]) -> bool
 }
 
 // A child of the BIND that is written: a BIND there is level 2.
-fn child_number(text: &[u8], content: &[u8]) -> u8
-    ensures { λ r. ⌜ r ≡ contentFault nestedLevels (now (text .entry)) (now (content .entry)) ⌝ }
+fn child_number(type_text: &[u8], content: &[u8]) -> u8
+    ensures { λ r. ⌜ r ≡ contentFault nestedLevels (now («type_text» .entry)) (now (content .entry)) ⌝ }
 {
-    content::nested_number(text, content)
+    content::nested_number(type_text, content)
 }
 
 // The first fault among the children's contents, or 0.
@@ -101,9 +101,9 @@ fn first_fault(types: &[&[u8]], contents: &[&[u8]]) -> u8
 {
     let mut i = 0;
     while i < types.len() {
-        let text = types[i];
+        let type_text = types[i];
         let content = contents[i];
-        let fault = child_number(text, content);
+        let fault = child_number(type_text, content);
         if fault != 0 {
             return fault;
         }
@@ -133,9 +133,9 @@ fn data_fits(contents: &[&[u8]], room: usize) -> bool
     true
 }
 
-// Check 20. What stands before the data is short, as the layout is good.
+// Check 20. What stands before the data is short, as the lists passed their check.
 fn space_number(types: &[&[u8]], names: &[&[u8]], contents: &[&[u8]], room: usize) -> u8
-    requires { ⌜ layoutGood (map now (now types)) (map now (now names)) (map now (now contents)) ≡ true ⌝ }
+    requires { ⌜ listsOk (map now (now types)) (map now (now names)) (map now (now contents)) ≡ true ⌝ }
     ensures { λ r. ⌜ r ≡ spaceFault (map now (now (types .entry))) (map now (now (names .entry))) (map now (now (contents .entry))) room ⌝ }
 {
     let n = names_len(names);
@@ -153,7 +153,7 @@ fn space_number(types: &[&[u8]], names: &[&[u8]], contents: &[&[u8]], room: usiz
 fn write_fault(types: &[&[u8]], names: &[&[u8]], contents: &[&[u8]], room: usize) -> u8
     ensures { λ r. ⌜ r ≡ writeFault (map now (now (types .entry))) (map now (now (names .entry))) (map now (now (contents .entry))) room ⌝ }
 {
-    if !layout_good(types, names, contents) {
+    if !lists_ok(types, names, contents) {
         return 10;
     }
     let fault = first_fault(types, contents);
@@ -174,11 +174,11 @@ fn put_pad(n: usize, at: usize, out: &mut [u8])
 }
 
 // Writes CTYPE and CSIZE. On the target a length has 64 bits, so it fits the 8 bytes of CSIZE and the cast keeps it.
-fn put_header(text: &[u8], size: usize, at: usize, out: &mut [u8])
+fn put_header(type_text: &[u8], size: usize, at: usize, out: &mut [u8])
     requires { ⌜ at + 20 ≤ length (now out) ⌝ }
-    ensures { λ _. ⌜ now (out .exit) ≡ sets (now (out .entry)) at (textBytes 12 (now (text .entry)) ++ beBytes 8 size) ⌝ }
+    ensures { λ _. ⌜ now (out .exit) ≡ sets (now (out .entry)) at (textBytes 12 (now («type_text» .entry)) ++ beBytes 8 size) ⌝ }
 {
-    fields::text::put_text12(text, at, out);
+    fields::text::put_text12(type_text, at, out);
     fields::number::put64(size as u64, at + 12, out);
 }
 
@@ -189,10 +189,10 @@ fn put_headers(types: &[&[u8]], contents: &[&[u8]], out: &mut [u8])
 {
     let mut i = 0;
     while i < types.len() {
-        let text = types[i];
+        let type_text = types[i];
         let content = contents[i];
         let size = content.len();
-        put_header(text, size, 2 + 20 * i, out);
+        put_header(type_text, size, 2 + 20 * i, out);
         i += 1;
     }
 }
@@ -266,7 +266,7 @@ fn put_table(names: &[&[u8]], at: usize, out: &mut [u8]) -> usize
 
 // Writes the whole content, and gives its length.
 fn put_children(types: &[&[u8]], names: &[&[u8]], contents: &[&[u8]], out: &mut [u8]) -> usize
-    requires { ⌜ (layoutGood (map now (now types)) (map now (now names)) (map now (now contents)) ≡ true) × (length (encodeChildren (children (map now (now types)) (map now (now names)) (map now (now contents)))) ≤ length (now out)) ⌝ }
+    requires { ⌜ (listsOk (map now (now types)) (map now (now names)) (map now (now contents)) ≡ true) × (length (encodeChildren (children (map now (now types)) (map now (now names)) (map now (now contents)))) ≤ length (now out)) ⌝ }
     ensures count { λ r. ⌜ r ≡ length (encodeChildren (children (map now (now (types .entry))) (map now (now (names .entry))) (map now (now (contents .entry))))) ⌝ }
     ensures bytes { λ _. ⌜ now (out .exit) ≡ sets (now (out .entry)) 0 (encodeChildren (children (map now (now (types .entry))) (map now (now (names .entry))) (map now (now (contents .entry))))) ⌝ }
 {

@@ -13,19 +13,19 @@ enum Kind {
 }
 
 // The kind of a type, by its exact text.
-fn kind_of(text: &[u8]) -> Kind
-    ensures { λ r. ⌜ r ≡ kindOf (now (text .entry)) ⌝ }
+fn kind_of(type_text: &[u8]) -> Kind
+    ensures { λ r. ⌜ r ≡ kindOf (now («type_text» .entry)) ⌝ }
 {
-    if fields::slice::same(text, b"TRANSFORM") {
+    if fields::slice::same(type_text, b"TRANSFORM") {
         return Kind::Transform;
     }
-    if fields::slice::same(text, b"POSITION") {
+    if fields::slice::same(type_text, b"POSITION") {
         return Kind::Position;
     }
-    if fields::slice::same(text, b"IMAGE") {
+    if fields::slice::same(type_text, b"IMAGE") {
         return Kind::Image;
     }
-    if fields::slice::same(text, b"BIND") {
+    if fields::slice::same(type_text, b"BIND") {
         return Kind::Bind;
     }
     Kind::Other
@@ -34,10 +34,10 @@ fn kind_of(text: &[u8]) -> Kind
 // The check of a content and the check of a BIND call on each other. The measure is twice the levels left and twice the bytes left, and
 // one more here, as this function hands on both as they are. A BIND hands a child one level less, and fewer bytes: its own four bytes of
 // counts are not part of any child.
-fn check_content(text: &[u8], content: &[u8], levels: u32) -> u8
-    ensures { λ r. ⌜ r ≡ contentFault levels (now (text .entry)) (now (content .entry)) ⌝ }
+fn check_content(type_text: &[u8], content: &[u8], levels: u32) -> u8
+    ensures { λ r. ⌜ r ≡ contentFault levels (now («type_text» .entry)) (now (content .entry)) ⌝ }
 {
-    match kind_of(text) {
+    match kind_of(type_text) {
         Kind::Transform => pose::transform_number(content),
         Kind::Position => pose::position_number(content),
         Kind::Image => image::image_number(content),
@@ -80,17 +80,17 @@ fn check_bind(content: &[u8], levels: u32) -> u8
 }
 
 // Document 01's number for a content of the type with this text, lent by itself: a BIND is level 1.
-pub fn content_number(text: &[u8], content: &[u8]) -> u8
-    ensures { λ r. ⌜ r ≡ contentFault deepest (now (text .entry)) (now (content .entry)) ⌝ }
+pub fn content_number(type_text: &[u8], content: &[u8]) -> u8
+    ensures { λ r. ⌜ r ≡ contentFault deepest (now («type_text» .entry)) (now (content .entry)) ⌝ }
 {
-    check_content(text, content, 4)
+    check_content(type_text, content, 4)
 }
 
 // The same for a child of such a BIND: a BIND there is level 2.
-pub fn nested_number(text: &[u8], content: &[u8]) -> u8
-    ensures { λ r. ⌜ r ≡ contentFault nestedLevels (now (text .entry)) (now (content .entry)) ⌝ }
+pub fn nested_number(type_text: &[u8], content: &[u8]) -> u8
+    ensures { λ r. ⌜ r ≡ contentFault nestedLevels (now («type_text» .entry)) (now (content .entry)) ⌝ }
 {
-    check_content(text, content, 3)
+    check_content(type_text, content, 3)
 }
 
 // Document 01's number for a BIND content lent by itself.

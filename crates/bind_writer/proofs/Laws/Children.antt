@@ -1,4 +1,4 @@
--- Children as three lists, and the loops over them. Assumes nothing.
+-- Children as three lists, and the loops over them.
 use Prim.Native.Nat.{ℕ, _+_, _*_, _<_}
 use mathlib.Core.Path.{_≡_, refl, sym, ap, ap₂, _∙_}
 use mathlib.Core.Bool.{Bool, true, false, _&&_}
@@ -17,7 +17,7 @@ use Rattle.bundle.proofs.Laws.Written.{length-headers}
 use Rattle.content.specs.Contents.{firstFault}
 use Rattle.content.proofs.Laws.Faults.{noChild, first-stop, first-next}
 use Rattle.bind_writer.specs.Lists.{children, typesOf, namesOf, contentsOf, SameCount}
-use Rattle.bind_writer.specs.Writer.{typeGood, textsGood, childFault}
+use Rattle.bind_writer.specs.Writer.{typeOk, textsOk, childFault}
 use Rattle.bind_writer.proofs.Laws.Slices.{none, length-given, given-at}
 
 -- ---- the lists of the children that three lists give, and the children of their own lists
@@ -51,23 +51,23 @@ module _ (ts : List (RefT (List ℕ))) (i : ℕ) (h : i < length ts) (cs : List 
   type-at : getD cs i noChild .typeText ≡ now (getD ts i none)
   type-at = given-at (λ c. c .typeText) cs ts p i noChild refl
 
-  -- by types and names: r and n say of the texts at i that they are good
+  -- by types and names: r and n say whether the texts at i pass
   module _ (ns : List (RefT (List ℕ))) (q : namesOf cs ≡ map now ns) where
     name-at : getD cs i noChild .name ≡ now (getD ns i none)
     name-at = given-at (λ c. c .name) cs ns q i noChild refl
 
-    texts-at : (r n : Bool) → typeGood (now (getD ts i none)) ≡ r → isText (now (getD ns i none)) ≡ n → textsGood (getD cs i noChild) ≡ (r && n)
-    texts-at r n a b = ap₂ (λ (x y : Bool). x && y) (ap typeGood type-at ∙ a) (ap isText name-at ∙ b)
+    texts-at : (r n : Bool) → typeOk (now (getD ts i none)) ≡ r → isText (now (getD ns i none)) ≡ n → textsOk (getD cs i noChild) ≡ (r && n)
+    texts-at r n a b = ap₂ (λ (x y : Bool). x && y) (ap typeOk type-at ∙ a) (ap isText name-at ∙ b)
 
-    pub texts-next : typeGood (now (getD ts i none)) ≡ true → isText (now (getD ns i none)) ≡ true
-        → all textsGood (drop i cs) ≡ all textsGood (drop (i + 1) cs)
-    texts-next a b = all-step textsGood cs i noChild below (texts-at true true a b)
+    pub texts-next : typeOk (now (getD ts i none)) ≡ true → isText (now (getD ns i none)) ≡ true
+        → all textsOk (drop i cs) ≡ all textsOk (drop (i + 1) cs)
+    texts-next a b = all-step textsOk cs i noChild below (texts-at true true a b)
 
-    pub texts-type : typeGood (now (getD ts i none)) ≡ false → all textsGood (drop i cs) ≡ false
-    texts-type a = all-stop textsGood cs i noChild below (texts-at false (isText (now (getD ns i none))) a refl)
+    pub texts-type : typeOk (now (getD ts i none)) ≡ false → all textsOk (drop i cs) ≡ false
+    texts-type a = all-stop textsOk cs i noChild below (texts-at false (isText (now (getD ns i none))) a refl)
 
-    pub texts-name : typeGood (now (getD ts i none)) ≡ true → isText (now (getD ns i none)) ≡ false → all textsGood (drop i cs) ≡ false
-    texts-name a b = all-stop textsGood cs i noChild below (texts-at true false a b)
+    pub texts-name : typeOk (now (getD ts i none)) ≡ true → isText (now (getD ns i none)) ≡ false → all textsOk (drop i cs) ≡ false
+    texts-name a b = all-stop textsOk cs i noChild below (texts-at true false a b)
 
   -- by types and contents
   module _ (ds : List (RefT (List ℕ))) (q : contentsOf cs ≡ map now ds) where

@@ -1,4 +1,4 @@
--- The encoding of children by their three lists: its length, and the stores that write it. Assumes nothing.
+-- The encoding of children by their three lists: its length, and the stores that write it.
 use Prim.Native.Nat.{ℕ, _+_, _*_, _%_, _≤_, min}
 use mathlib.Core.Path.{_≡_, refl, sym, ap, ap₂, _∙_}
 use mathlib.Core.List.{List, [], _∷_, _++_, append-assoc}
@@ -55,7 +55,7 @@ module _ (ts ns ds : List (List ℕ)) (h : SameCount ts ns ds) where
   unfolding nameTable
   table-given = ap padded names-given
 
-  pub data-given : flat childData (children ts ns ds) ≡ flat padded ds
+  data-given : flat childData (children ts ns ds) ≡ flat padded ds
   data-given = data-flat (children ts ns ds) ∙ ap (flat padded) (lists-of ts ns ds h .2)
 
   pub length-given : length (encodeChildren (children ts ns ds)) ≡ 4 + 20 * length ts + length (padded (flat ended ns)) + length (flat padded ds)

@@ -1,4 +1,4 @@
--- The writer's checks in order: which fault is given, and what is known where there is none. Assumes nothing.
+-- The writer's checks in order: which fault is given, and what is known where there is none.
 use Prim.Native.Nat.{ℕ, _≤_}
 use mathlib.Core.Path.{_≡_, sym, ap, _∙_}
 use mathlib.Core.Bool.{Bool, true, false, cond}
@@ -11,7 +11,7 @@ use Rattle.fields.proofs.Laws.Answer.{room-fits}
 use Rattle.bundle.specs.Children.{encodeChildren}
 use Rattle.content.specs.Contents.{firstFault}
 use Rattle.bind_writer.specs.Lists.{children}
-use Rattle.bind_writer.specs.Writer.{layoutGood, listsFault, childFault, spaceFault, writeFault}
+use Rattle.bind_writer.specs.Writer.{listsOk, listsFault, childFault, spaceFault, writeFault}
 
 module _ (ts ns ds : List (List ℕ)) (room : ℕ) where
   abbrev ofChildren : ℕ
@@ -20,22 +20,22 @@ module _ (ts ns ds : List (List ℕ)) (room : ℕ) where
   abbrev ofRoom : ℕ
   ofRoom = spaceFault ts ns ds room
 
-  pub by-lists : layoutGood ts ns ds ≡ false → writeFault ts ns ds room ≡ 10
+  pub by-lists : listsOk ts ns ds ≡ false → writeFault ts ns ds room ≡ 10
   unfolding writeFault listsFault
   by-lists h = ap (λ (b : Bool). orElse (cond b 0 10) (orElse ofChildren ofRoom)) h
 
-  pub past-lists : layoutGood ts ns ds ≡ true → writeFault ts ns ds room ≡ orElse ofChildren ofRoom
+  pub past-lists : listsOk ts ns ds ≡ true → writeFault ts ns ds room ≡ orElse ofChildren ofRoom
   unfolding writeFault listsFault
   past-lists h = ap (λ (b : Bool). orElse (cond b 0 10) (orElse ofChildren ofRoom)) h
 
-  pub by-children : layoutGood ts ns ds ≡ true → (ofChildren ≡ 0 → ⊥) → writeFault ts ns ds room ≡ ofChildren
+  pub by-children : listsOk ts ns ds ≡ true → (ofChildren ≡ 0 → ⊥) → writeFault ts ns ds room ≡ ofChildren
   by-children h n = past-lists h ∙ else-first ofChildren ofRoom n
 
-  pub by-room : layoutGood ts ns ds ≡ true → ofChildren ≡ 0 → writeFault ts ns ds room ≡ ofRoom
+  pub by-room : listsOk ts ns ds ≡ true → ofChildren ≡ 0 → writeFault ts ns ds room ≡ ofRoom
   by-room h z = past-lists h ∙ else-second ofChildren ofRoom z
 
   pub record Passed : Type 0 where
-    pub layout : layoutGood ts ns ds ≡ true
+    pub lists : listsOk ts ns ds ≡ true
     pub faultless : ofChildren ≡ 0
     pub fits : length (encodeChildren (children ts ns ds)) ≤ room
 
@@ -44,9 +44,9 @@ module _ (ts ns ds : List (List ℕ)) (room : ℕ) where
   passed h =
       let a = zero-else (listsFault ts ns ds) (orElse ofChildren ofRoom) h in
       let b = zero-else ofChildren ofRoom (a .1) in
-      record { layout = cond-pass (layoutGood ts ns ds) 9 0 (a .0) .0; faultless = b .0; fits = omega (arith, room-fits (length (encodeChildren (children ts ns ds))) _ (b .1)) }
+      record { lists = cond-pass (listsOk ts ns ds) 9 0 (a .0) .0; faultless = b .0; fits = omega (arith, room-fits (length (encodeChildren (children ts ns ds))) _ (b .1)) }
 
   -- where the fault k that was found is none, there is all that writing asks for
   pub ready : (k : ℕ) → k ≡ writeFault ts ns ds room → k ≡ 0
-      → (layoutGood ts ns ds ≡ true) × (length (encodeChildren (children ts ns ds)) ≤ room)
-  ready k e z = let p = passed (sym e ∙ z) in (p .layout, p .fits)
+      → (listsOk ts ns ds ≡ true) × (length (encodeChildren (children ts ns ds)) ≤ room)
+  ready k e z = let p = passed (sym e ∙ z) in (p .lists, p .fits)

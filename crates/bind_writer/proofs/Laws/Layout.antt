@@ -1,4 +1,4 @@
--- The check of the three lists: what it says where it passes, and that it fails otherwise. Assumes nothing.
+-- The check of the three lists: what it says where it passes, and that it fails otherwise.
 use Prim.Native.Nat.{ℕ}
 use mathlib.Core.Path.{_≡_}
 use mathlib.Core.Bool.{true, false}
@@ -10,22 +10,22 @@ use Rattle.fields.specs.Lists.{all}
 use Rattle.fields.proofs.Laws.Checks.{and-split, and-join}
 use Rattle.fields.proofs.Laws.Tests.{is-false}
 use Rattle.bind_writer.specs.Lists.{children, SameCount}
-use Rattle.bind_writer.specs.Writer.{textsGood, countFits, tableFits, layoutGood}
+use Rattle.bind_writer.specs.Writer.{textsOk, countFits, tableFits, listsOk}
 
-pub record Laid (ts ns ds : List (List ℕ)) : Type 0 where
+pub record ListsPassed (ts ns ds : List (List ℕ)) : Type 0 where
   pub count : SameCount ts ns ds
   pub few : countFits ts ≡ true
-  pub texts : all textsGood (children ts ns ds) ≡ true
+  pub texts : all textsOk (children ts ns ds) ≡ true
   pub table : tableFits (children ts ns ds) ≡ true
 
 module _ (ts ns ds : List (List ℕ)) where
-  pub laid : layoutGood ts ns ds ≡ true → Laid ts ns ds
-  unfolding layoutGood
-  laid h =
+  pub lists-passed : listsOk ts ns ds ≡ true → ListsPassed ts ns ds
+  unfolding listsOk
+  lists-passed h =
       let a = and-split (eqb (length ns) (length ts)) _ h in
       let b = and-split (eqb (length ds) (length ts)) _ (a .1) in
       let k = and-split (countFits ts) _ (b .1) in
-      let t = and-split (all textsGood (children ts ns ds)) _ (k .1) in
+      let t = and-split (all textsOk (children ts ns ds)) _ (k .1) in
       record {
         count = record { names = eqb-true (length ns) (length ts) (a .0); contents = eqb-true (length ds) (length ts) (b .0) };
         few = k .0;
@@ -33,12 +33,12 @@ module _ (ts ns ds : List (List ℕ)) where
         table = t .1;
       }
 
-  pub laid-good : Laid ts ns ds → layoutGood ts ns ds ≡ true
-  unfolding layoutGood
-  laid-good l =
+  pub lists-pass : ListsPassed ts ns ds → listsOk ts ns ds ≡ true
+  unfolding listsOk
+  lists-pass l =
       and-join _ _ (eq-eqb (length ns) (length ts) (l .count .names))
       (and-join _ _ (eq-eqb (length ds) (length ts) (l .count .contents))
       (and-join _ _ (l .few) (and-join _ _ (l .texts) (l .table))))
 
-  pub not-laid : (Laid ts ns ds → ⊥) → layoutGood ts ns ds ≡ false
-  not-laid n = is-false (layoutGood ts ns ds) (λ e. n (laid e))
+  pub lists-refused : (ListsPassed ts ns ds → ⊥) → listsOk ts ns ds ≡ false
+  lists-refused n = is-false (listsOk ts ns ds) (λ e. n (lists-passed e))

@@ -25,11 +25,11 @@ abbrev μ-loop : tie.MeasureT-loop
 loop-holds : tie.Need-loop-holds Inv-loop μ-loop
 loop-holds c = (omega arith, λ cs p q. refl)
 
-mul-text : tie.Need-mul-text Inv-loop μ-loop
-mul-text c = search needs
+mul-type-text : tie.Need-mul-type-text Inv-loop μ-loop
+mul-type-text c = search needs
 
-shared-slice-copy-out-text : tie.Need-shared-slice-copy-out-text Inv-loop μ-loop
-shared-slice-copy-out-text c = search needs
+shared-slice-copy-out-type-text : tie.Need-shared-slice-copy-out-type-text Inv-loop μ-loop
+shared-slice-copy-out-type-text c = search needs
 
 mul-content : tie.Need-mul-content Inv-loop μ-loop
 mul-content c = search needs
@@ -74,8 +74,8 @@ first-fault-spec =
     Inv-loop
     μ-loop
     loop-holds
-    mul-text
-    shared-slice-copy-out-text
+    mul-type-text
+    shared-slice-copy-out-type-text
     mul-content
     shared-slice-copy-out-content
     child-number-requires

@@ -14,7 +14,7 @@ use Rattle.bundle.specs.Children.{padded, nameTable, childHeader, ended}
 use Rattle.bind_writer.specs.Lists.{children}
 use Rattle.bind_writer.proofs.Laws.Slices.{count-same}
 use Rattle.bind_writer.proofs.Laws.Children.{lists-of}
-use Rattle.bind_writer.proofs.Laws.Layout.{laid}
+use Rattle.bind_writer.proofs.Laws.Layout.{lists-passed}
 use Rattle.bind_writer.proofs.Laws.Encoding.{table-given, length-given, encode-stores}
 use Rattle.bind_writer.proofs.put_children.Statement.{statement}
 use Rattle.bind_writer.proofs.put_children.Tie as tie
@@ -22,7 +22,7 @@ use Rattle.bind_writer.proofs.put_children.Tie as tie
 cast-put16 : tie.Need-cast-put16
 cast-put16 c =
     let a = c .before .args in
-    let g = laid (map now (a .types .now)) (map now (a .names .now)) (map now (a .contents .now)) (c .before .pre .0) in
+    let g = lists-passed (map now (a .types .now)) (map now (a .names .now)) (map now (a .contents .now)) (c .before .pre .0) in
     omega (arith, leb-true (length (map now (a .types .now))) _ (g .few), length-map (a .types .now) now)
 
 put16-requires : tie.Need-put16-requires
@@ -34,7 +34,7 @@ put-headers-requires c κs =
     let ts = a .types .now in
     let ns = a .names .now in
     let ds = a .contents .now in
-    let g = laid (map now ts) (map now ns) (map now ds) (c .before .before .before .before .before .before .pre .0) in
+    let g = lists-passed (map now ts) (map now ns) (map now ds) (c .before .before .before .before .before .before .pre .0) in
     let e = length-given (map now ts) (map now ns) (map now ds) (g .count) in
     (count-same ts ns ds (g .count) .1, omega (arith, c .before .before .before .before .before .before .pre .1, length-map ts now))
 
@@ -50,7 +50,7 @@ put-table-requires c κs =
     let ts = map now (a .types .now) in
     let ns = map now (a .names .now) in
     let ds = map now (a .contents .now) in
-    let g = laid ts ns ds (c .before .before .before .before .before .before .before .before .before .before .pre .0) in
+    let g = lists-passed ts ns ds (c .before .before .before .before .before .before .before .before .before .before .pre .0) in
     let e = length-given ts ns ds (g .count) in
     (omega (arith, leb-true (length (nameTable (children ts ns ds))) _ (g .table), ap length (table-given ts ns ds (g .count))), omega (arith, c .before .before .before .before .before .before .before .before .before .before .pre .1, length-map (a .types .now) now))
 
@@ -60,7 +60,7 @@ put-contents-requires c κs =
     let ts = map now (a .types .now) in
     let ns = map now (a .names .now) in
     let ds = map now (a .contents .now) in
-    let g = laid ts ns ds (c .before .before .before .before .before .before .before .before .before .before .before .before .before .before .pre .0) in
+    let g = lists-passed ts ns ds (c .before .before .before .before .before .before .before .before .before .before .before .before .before .before .pre .0) in
     let e = length-given ts ns ds (g .count) in
     omega (arith, c .before .before .before .before .before .before .before .before .before .before .before .before .before .before .pre .1, c .before .before .before .put-table .ensures .0, length-map (a .types .now) now)
 
@@ -73,7 +73,7 @@ returns c =
     let ts = map now (a .types .now) in
     let ns = map now (a .names .now) in
     let ds = map now (a .contents .now) in
-    let g = laid ts ns ds (c .before .before .before .before .before .before .before .before .before .before .before .before .before .before .before .before .before .pre .0) in
+    let g = lists-passed ts ns ds (c .before .before .before .before .before .before .before .before .before .before .before .before .before .before .before .before .before .pre .0) in
     let e = length-given ts ns ds (g .count) in
     let p = lists-of ts ns ds (g .count) in
     let n = length-map (a .types .now) now in

@@ -26,11 +26,11 @@ same-length c = search needs
 returns : tie.Need-returns
 returns c =
     let a = c .before .before .before .before .before .before .before .before .before .before .args in
-    let x = textBytes 12 (a .text .now) in
+    let x = textBytes 12 (a .type-text .now) in
     let y = beBytes 8 (a .size) in
     c .before .before .put64 .ensures
     ∙ ap (λ (l : List ℕ). sets l (a .at + 12) y) (c .before .before .before .before .before .before .put-text12 .ensures)
-    ∙ ap (λ (n : ℕ). sets (sets (a .out .now) (a .at) x) (a .at + n) y) (sym (length-textBytes 12 (a .text .now)))
+    ∙ ap (λ (n : ℕ). sets (sets (a .out .now) (a .at) x) (a .at + n) y) (sym (length-textBytes 12 (a .type-text .now)))
     ∙ sym (sets-append (a .out .now) (a .at) x y)
 
 pub put-header-spec : {M : Type 1} → statement M

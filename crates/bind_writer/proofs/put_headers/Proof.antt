@@ -30,11 +30,11 @@ abbrev μ-loop : tie.MeasureT-loop
 loop-holds : tie.Need-loop-holds Inv-loop μ-loop
 loop-holds c = (omega arith, refl, λ cs p q. ap (sets (c .before .args .out .now) 2) (sym (flat-none childHeader cs)))
 
-mul-text : tie.Need-mul-text Inv-loop μ-loop
-mul-text c = search needs
+mul-type-text : tie.Need-mul-type-text Inv-loop μ-loop
+mul-type-text c = search needs
 
-shared-slice-copy-out-text : tie.Need-shared-slice-copy-out-text Inv-loop μ-loop
-shared-slice-copy-out-text c = search needs
+shared-slice-copy-out-type-text : tie.Need-shared-slice-copy-out-type-text Inv-loop μ-loop
+shared-slice-copy-out-type-text c = search needs
 
 mul-content : tie.Need-mul-content Inv-loop μ-loop
 mul-content c = search needs
@@ -85,8 +85,8 @@ put-headers-spec =
     Inv-loop
     μ-loop
     loop-holds
-    mul-text
-    shared-slice-copy-out-text
+    mul-type-text
+    shared-slice-copy-out-type-text
     mul-content
     shared-slice-copy-out-content
     mul-put-header

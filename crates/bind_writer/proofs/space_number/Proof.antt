@@ -12,8 +12,8 @@ use Rattle.fields.specs.Lists.{flat}
 use Rattle.fields.proofs.Laws.Answer.{room-enough, room-short}
 use Rattle.bundle.specs.Children.{padded, nameTable, encodeChildren, ended}
 use Rattle.bind_writer.specs.Lists.{children}
-use Rattle.bind_writer.proofs.Laws.Layout.{laid}
-use Rattle.bind_writer.specs.Writer.{layoutGood}
+use Rattle.bind_writer.proofs.Laws.Layout.{lists-passed}
+use Rattle.bind_writer.specs.Writer.{listsOk}
 use Rattle.bind_writer.proofs.Laws.Encoding.{length-front}
 use Rattle.bind_writer.proofs.space_number.Statement.{statement}
 use Rattle.bind_writer.proofs.space_number.Tie as tie
@@ -34,10 +34,10 @@ add-front-3 : tie.Need-add-front-3
 add-front-3 c = search needs
 
 -- the length that the room is compared with, by the names' length n
-encoded : (ts ns ds : List (List ℕ)) {n : ℕ} → layoutGood ts ns ds ≡ true → n ≡ min (length (flat ended ns)) 65536
+encoded : (ts ns ds : List (List ℕ)) {n : ℕ} → listsOk ts ns ds ≡ true → n ≡ min (length (flat ended ns)) 65536
     → length (encodeChildren (children ts ns ds)) ≡ 4 + 20 * length ts + n + n % 2 + length (flat padded ds)
 encoded ts ns ds h e =
-    let g = laid ts ns ds h in
+    let g = lists-passed ts ns ds h in
     let t = leb-true (length (nameTable (children ts ns ds))) _ (g .table) in
     length-front ts ns ds (g .count) _ _ e (omega (arith, t))
 

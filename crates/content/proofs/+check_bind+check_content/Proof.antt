@@ -246,31 +246,31 @@ check-content-returns : (t : ℕ) → check-content-lts.Need-returns (content-cl
 check-content-returns t c =
     let z = c .before .before .before .before .before .before .args in
     let k = sym (c .before .before .before .kind-of .ensures) ∙ c .before .enum-told .given .1 in
-    c .transform-number .ensures ∙ sym (kind-fault (z .levels) (z .text .now) (z .content .now) Transform k)
+    c .transform-number .ensures ∙ sym (kind-fault (z .levels) (z .type-text .now) (z .content .now) Transform k)
 
 check-content-returns-2 : (t : ℕ) → check-content-lts.Need-returns-2 (content-claims t) (check-content-at t) check-content.Post
 check-content-returns-2 t c =
     let z = c .before .before .before .before .before .before .args in
     let k = sym (c .before .before .before .kind-of .ensures) ∙ c .before .enum-told2 .given .1 in
-    c .position-number .ensures ∙ sym (kind-fault (z .levels) (z .text .now) (z .content .now) Position k)
+    c .position-number .ensures ∙ sym (kind-fault (z .levels) (z .type-text .now) (z .content .now) Position k)
 
 check-content-returns-3 : (t : ℕ) → check-content-lts.Need-returns-3 (content-claims t) (check-content-at t) check-content.Post
 check-content-returns-3 t c =
     let z = c .before .before .before .before .before .before .args in
     let k = sym (c .before .before .before .kind-of .ensures) ∙ c .before .enum-told3 .given .1 in
-    c .image-number .ensures ∙ sym (kind-fault (z .levels) (z .text .now) (z .content .now) Image k)
+    c .image-number .ensures ∙ sym (kind-fault (z .levels) (z .type-text .now) (z .content .now) Image k)
 
 check-content-returns-4 : (t : ℕ) → check-content-lts.Need-returns-4 (content-claims t) (check-content-at t) check-content.Post
 check-content-returns-4 t c =
     let z = c .before .before .before .before .before .before .args in
     let k = sym (c .before .before .before .kind-of .ensures) ∙ c .before .enum-told4 .given .1 in
-    c .check-bind .ensures ∙ sym (kind-fault (z .levels) (z .text .now) (z .content .now) Bind k)
+    c .check-bind .ensures ∙ sym (kind-fault (z .levels) (z .type-text .now) (z .content .now) Bind k)
 
 check-content-returns-5 : (t : ℕ) → check-content-lts.Need-returns-5 (content-claims t) (check-content-at t) check-content.Post
 check-content-returns-5 t c =
     let z = c .before .before .before .before .before .args in
     let k = sym (c .before .before .kind-of .ensures) ∙ c .enum-told5 .given .1 in
-    sym (kind-fault (z .levels) (z .text .now) (z .content .now) Other k)
+    sym (kind-fault (z .levels) (z .type-text .now) (z .content .now) Other k)
 
 pub +check-bind+check-content-spec : {M : Type 1} → statement M
 +check-bind+check-content-spec = close μ-check-bind μ-check-content (λ t. check-bind-lts.spec (bind-claims t)

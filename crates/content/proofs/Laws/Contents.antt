@@ -1,4 +1,4 @@
--- A content is accepted exactly when some well formed content of its type is written as it, and only one is. Assumes nothing.
+-- A content is accepted exactly when some well formed content of its type is written as it, and only one is.
 use mathlib.Core.Path.{_≡_, refl, sym, ap, ap₂, subst, _∙_}
 use mathlib.Core.List.{List, [], _∷_}
 use Prim.Native.Nat.{ℕ, zero, suc, _+_, _*_}
@@ -108,7 +108,7 @@ child-nil e = let z : _≡_ {A = ℕ} 0 1 = cc in omega arith
 mutual
   unfolding WellFormed encode same
 
-  pub content-unique : (l m : ℕ) (x y : Content) → WellFormed x l → WellFormed y m → typeText x ≡ typeText y → encode x ≡ encode y → x ≡ y
+  content-unique : (l m : ℕ) (x y : Content) → WellFormed x l → WellFormed y m → typeText x ≡ typeText y → encode x ≡ encode y → x ≡ y
   content-unique l m (transform ws) (transform vs) v w t e = ap transform (words-unique ws vs (v .words) (w .words) e)
   content-unique l m (position ws) (position vs) v w t e = ap position (words-unique ws vs (v .words) (w .words) e)
   content-unique l m (image x) (image y) v w t e = ap image (image-unique x y v w e)

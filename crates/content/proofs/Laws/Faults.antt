@@ -1,4 +1,4 @@
--- The faults of a content over a list of children, and document 01's order of them. Assumes nothing.
+-- The faults of a content over a list of children, and document 01's order of them.
 use mathlib.Core.Path.{_≡_, refl, sym, ap, _∙_}
 use mathlib.Core.List.{List, [], _∷_}
 use Prim.Native.Nat.{ℕ, zero, suc, _+_, _≤_, _<_}
@@ -28,7 +28,7 @@ abbrev pub childFault : ℕ → Child → ℕ
 childFault levels c = contentFault levels (c .typeText) (c .content)
 
 -- the walk over the children is the first fault of the list of them
-pub faults-list : (levels k : ℕ) (h t d : List ℕ) → childrenFault (bindFault levels) k h d ≡ firstFault (childFault levels) (childrenFrom k h t d)
+faults-list : (levels k : ℕ) (h t d : List ℕ) → childrenFault (bindFault levels) k h d ≡ firstFault (childFault levels) (childrenFrom k h t d)
 unfolding childrenFault childrenFrom contentFault
 faults-list levels zero h t d = refl
 faults-list levels (suc k) h t d =

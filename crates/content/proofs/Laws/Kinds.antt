@@ -1,4 +1,4 @@
--- The kind of a type tells its text, and a text its kind. Assumes nothing.
+-- The kind of a type tells its text, and a text its kind.
 use mathlib.Core.Path.{_≡_, refl}
 use mathlib.Core.Bool.{Bool, true, false}
 use mathlib.Core.List.{List}

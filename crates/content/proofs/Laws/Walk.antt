@@ -1,4 +1,4 @@
--- One step of the check of a content: by its kind; of a BIND, its own faults and the walk over its children. Assumes nothing.
+-- One step of the check of a content: by its kind; of a BIND, its own faults and the walk over its children.
 use mathlib.Core.Path.{_≡_, refl, sym, ap, _∙_}
 use mathlib.Core.List.{List}
 use Prim.Native.Nat.{ℕ, zero, suc, _-_, _≤_, _<_}

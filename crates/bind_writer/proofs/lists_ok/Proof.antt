@@ -1,4 +1,4 @@
--- `bind_writer::layout_good` meets its contract: each test that fails contradicts what a good layout says.
+-- `bind_writer::lists_ok` meets its contract: each test that fails contradicts what lists that pass say.
 use mathlib.Core.Path.{ap, sym, _∙_}
 use mathlib.Core.Bool.{false≢true}
 use mathlib.Core.List.{map}
@@ -11,10 +11,10 @@ use Rattle.bundle.specs.Children.{nameTable}
 use Rattle.bind_writer.specs.Lists.{children}
 use Rattle.bind_writer.proofs.Laws.Slices.{same-count, count-same}
 use Rattle.bind_writer.proofs.Laws.Children.{lists-of}
-use Rattle.bind_writer.proofs.Laws.Layout.{laid-good, not-laid}
+use Rattle.bind_writer.proofs.Laws.Layout.{lists-pass, lists-refused}
 use Rattle.bind_writer.proofs.Laws.Encoding.{length-table, names-given}
-use Rattle.bind_writer.proofs.layout_good.Statement.{statement}
-use Rattle.bind_writer.proofs.layout_good.Tie as tie
+use Rattle.bind_writer.proofs.lists_ok.Statement.{statement}
+use Rattle.bind_writer.proofs.lists_ok.Tie as tie
 
 returns : tie.Need-returns
 returns c =
@@ -22,7 +22,7 @@ returns c =
     let ts = a .types .now in
     let ns = a .names .now in
     let ds = a .contents .now in
-    sym (not-laid (map now ts) (map now ns) (map now ds) (λ l. c .if1 .taken (count-same ts ns ds (l .count) .0)))
+    sym (lists-refused (map now ts) (map now ns) (map now ds) (λ l. c .if1 .taken (count-same ts ns ds (l .count) .0)))
 
 returns-2 : tie.Need-returns-2
 returns-2 c =
@@ -30,16 +30,16 @@ returns-2 c =
     let ts = a .types .now in
     let ns = a .names .now in
     let ds = a .contents .now in
-    sym (not-laid (map now ts) (map now ns) (map now ds) (λ l. c .if2 .taken (count-same ts ns ds (l .count) .1)))
+    sym (lists-refused (map now ts) (map now ns) (map now ds) (λ l. c .if2 .taken (count-same ts ns ds (l .count) .1)))
 
 returns-3 : tie.Need-returns-3
 returns-3 c =
     let a = c .before .before .before .args in
     let ts = a .types .now in
-    sym (not-laid (map now ts) (map now (a .names .now)) (map now (a .contents .now)) (λ l. omega (arith, leb-true (length (map now ts)) _ (l .few), length-map ts now)))
+    sym (lists-refused (map now ts) (map now (a .names .now)) (map now (a .contents .now)) (λ l. omega (arith, leb-true (length (map now ts)) _ (l .few), length-map ts now)))
 
-texts-good-requires : tie.Need-texts-good-requires
-texts-good-requires c κs = search needs
+texts-ok-requires : tie.Need-texts-ok-requires
+texts-ok-requires c κs = search needs
 
 returns-4 : tie.Need-returns-4
 returns-4 c =
@@ -47,8 +47,8 @@ returns-4 c =
     let ts = map now (a .types .now) in
     let ns = map now (a .names .now) in
     let ds = map now (a .contents .now) in
-    let g = c .before .texts-good in
-    sym (not-laid ts ns ds (λ l.
+    let g = c .before .texts-ok in
+    sym (lists-refused ts ns ds (λ l.
     let e = lists-of ts ns ds (l .count) in
     false≢true (sym (not-true (g .result) (c .if4 .taken)) ∙ g .ensures (children ts ns ds) (e .0) (e .1) ∙ l .texts)))
 
@@ -64,7 +64,7 @@ returns-5 c =
     let ts = map now (a .types .now) in
     let ns = map now (a .names .now) in
     let ds = map now (a .contents .now) in
-    sym (not-laid ts ns ds (λ l. omega (arith, c .before .names-len .ensures, leb-true (length (nameTable (children ts ns ds))) _ (l .table), length-table ts ns ds (l .count), ap length (names-given ts ns ds (l .count)))))
+    sym (lists-refused ts ns ds (λ l. omega (arith, c .before .names-len .ensures, leb-true (length (nameTable (children ts ns ds))) _ (l .table), length-table ts ns ds (l .count), ap length (names-given ts ns ds (l .count)))))
 
 returns-6 : tie.Need-returns-6
 returns-6 c =
@@ -72,24 +72,24 @@ returns-6 c =
     let ts = map now (a .types .now) in
     let ns = map now (a .names .now) in
     let ds = map now (a .contents .now) in
-    let g = c .before .before .before .texts-good in
+    let g = c .before .before .before .texts-ok in
     let h = same-count (a .types .now) (a .names .now) (a .contents .now) (omega arith) (omega arith) in
     let e = lists-of ts ns ds h in
-    sym (laid-good ts ns ds (record {
+    sym (lists-pass ts ns ds (record {
       count = h;
       few = le-leb (length ts) _ (omega (arith, length-map (a .types .now) now));
       texts = sym (g .ensures (children ts ns ds) (e .0) (e .1)) ∙ not-false (g .result) (c .before .before .if4 .left);
       table = le-leb (length (nameTable (children ts ns ds))) _ (omega (arith, c .before .names-len .ensures, length-table ts ns ds h, ap length (names-given ts ns ds h)));
     }))
 
-pub layout-good-spec : {M : Type 1} → statement M
-layout-good-spec =
+pub lists-ok-spec : {M : Type 1} → statement M
+lists-ok-spec =
     tie.close
     (tie.spec
     returns
     returns-2
     returns-3
-    texts-good-requires
+    texts-ok-requires
     returns-4
     names-len-requires
     add-if5

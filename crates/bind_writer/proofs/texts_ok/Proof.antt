@@ -1,4 +1,4 @@
--- `bind_writer::texts_good` meets its contract. The loop's invariant: the test of all children is that of those from place `i` on.
+-- `bind_writer::texts_ok` meets its contract. The loop's invariant: the test of all children is that of those from place `i` on.
 use Prim.Native.Nat.{_-_, _≤_}
 use mathlib.Core.Path.{_≡_, refl, sym, _∙_}
 use mathlib.Core.List.{map}
@@ -10,15 +10,15 @@ use borrow.Author.Needs.{needs}
 use Rattle.fields.specs.Lists.{all}
 use Rattle.fields.proofs.Laws.Lists.{all-end}
 use Rattle.bind_writer.specs.Lists.{WithNames}
-use Rattle.bind_writer.specs.Writer.{textsGood}
+use Rattle.bind_writer.specs.Writer.{textsOk}
 use Rattle.bind_writer.proofs.Laws.Slices.{length-given}
 use Rattle.bind_writer.proofs.Laws.Children.{texts-next, texts-type, texts-name}
-use Rattle.bind_writer.proofs.texts_good.Statement.{statement}
-use Rattle.bind_writer.proofs.texts_good.Tie as tie
+use Rattle.bind_writer.proofs.texts_ok.Statement.{statement}
+use Rattle.bind_writer.proofs.texts_ok.Tie as tie
 
 abbrev Inv-loop : tie.InvT-loop
 Inv-loop types names i₀ i =
-    (i ≤ length types) × WithNames (map now types) (map now names) (λ cs. all textsGood cs ≡ all textsGood (drop i cs))
+    (i ≤ length types) × WithNames (map now types) (map now names) (λ cs. all textsOk cs ≡ all textsOk (drop i cs))
 
 abbrev μ-loop : tie.MeasureT-loop
 μ-loop types names i₀ i = length types - i
@@ -26,11 +26,11 @@ abbrev μ-loop : tie.MeasureT-loop
 loop-holds : tie.Need-loop-holds Inv-loop μ-loop
 loop-holds c = (omega arith, λ cs p q. refl)
 
-mul-text : tie.Need-mul-text Inv-loop μ-loop
-mul-text c = search needs
+mul-type-text : tie.Need-mul-type-text Inv-loop μ-loop
+mul-type-text c = search needs
 
-shared-slice-copy-out-text : tie.Need-shared-slice-copy-out-text Inv-loop μ-loop
-shared-slice-copy-out-text c = search needs
+shared-slice-copy-out-type-text : tie.Need-shared-slice-copy-out-type-text Inv-loop μ-loop
+shared-slice-copy-out-type-text c = search needs
 
 mul-name : tie.Need-mul-name Inv-loop μ-loop
 mul-name c = search needs
@@ -38,14 +38,14 @@ mul-name c = search needs
 shared-slice-copy-out-name : tie.Need-shared-slice-copy-out-name Inv-loop μ-loop
 shared-slice-copy-out-name c = search needs
 
-type-good-requires : tie.Need-type-good-requires Inv-loop μ-loop
-type-good-requires c κs = search needs
+type-ok-requires : tie.Need-type-ok-requires Inv-loop μ-loop
+type-ok-requires c κs = search needs
 
 returns : tie.Need-returns Inv-loop μ-loop
 returns c =
     let a = c .before .before .before .before .before .before .args in
     let l = c .before .before .before .before .before .loop in
-    let g = c .before .type-good in
+    let g = c .before .type-ok in
     λ cs p q. sym (l .inv .1 cs p q ∙ texts-type (a .types .now) (l .i) (omega arith) cs p (a .names .now) q (sym (g .ensures) ∙ not-true (g .result) (c .if1 .taken)))
 
 is-text-requires : tie.Need-is-text-requires Inv-loop μ-loop
@@ -55,7 +55,7 @@ returns-2 : tie.Need-returns-2 Inv-loop μ-loop
 returns-2 c =
     let a = c .before .before .before .before .before .before .before .before .args in
     let l = c .before .before .before .before .before .before .before .loop in
-    let g = c .before .before .before .type-good in
+    let g = c .before .before .before .type-ok in
     let n = c .before .is-text in
     λ cs p q. sym (l .inv .1 cs p q ∙ texts-name (a .types .now) (l .i) (omega arith) cs p (a .names .now) q (sym (g .ensures) ∙ not-false (g .result) (c .before .before .if1 .left)) (sym (n .ensures) ∙ not-true (n .result) (c .if2 .taken)))
 
@@ -69,7 +69,7 @@ loop-again : tie.Need-loop-again Inv-loop μ-loop
 loop-again c =
     let a = c .before .before .before .before .before .before .before .before .args in
     let l = c .before .before .before .before .before .before .before .loop in
-    let g = c .before .before .before .type-good in
+    let g = c .before .before .before .type-ok in
     let n = c .before .is-text in (
       omega arith,
       λ cs p q. l .inv .1 cs p q ∙ texts-next (a .types .now) (l .i) (omega arith) cs p (a .names .now) q (sym (g .ensures) ∙ not-false (g .result) (c .before .before .if1 .left)) (sym (n .ensures) ∙ not-false (n .result) (c .if2 .left)),
@@ -78,20 +78,20 @@ loop-again c =
 returns-3 : tie.Need-returns-3 Inv-loop μ-loop
 returns-3 c =
     let l = c .before .loop in
-    λ cs p q. sym (l .inv .1 cs p q ∙ all-end textsGood cs (l .i) (omega (arith, length-given (λ c. c .typeText) cs (c .before .before .args .types .now) p)))
+    λ cs p q. sym (l .inv .1 cs p q ∙ all-end textsOk cs (l .i) (omega (arith, length-given (λ c. c .typeText) cs (c .before .before .args .types .now) p)))
 
-pub texts-good-spec : {M : Type 1} → statement M
-texts-good-spec =
+pub texts-ok-spec : {M : Type 1} → statement M
+texts-ok-spec =
     tie.close
     (tie.spec
     Inv-loop
     μ-loop
     loop-holds
-    mul-text
-    shared-slice-copy-out-text
+    mul-type-text
+    shared-slice-copy-out-type-text
     mul-name
     shared-slice-copy-out-name
-    type-good-requires
+    type-ok-requires
     returns
     is-text-requires
     returns-2
