@@ -16,13 +16,13 @@ use Rattle.message.specs.Message.{Message}
 use Rattle.history.specs.Calls.{Call, add, linkUp, linkDown, message, look}
 use Rattle.history.specs.Reading.{Reading, noMessage, leftOver, oneMessage, Reader}
 
--- a tile as the book has it
+-- a tile as the book has it. Its hold time is how many milliseconds old a message may be that makes it green
 pub record Entry : Type 0 where
   pub typeText : List ℕ
   pub name : List ℕ
   pub holdTime : ℕ
 
--- a tile's number is its place among the tiles
+-- the book. A tile's number is its place among the tiles; up says whether the link is
 pub record Summary : Type 0 where
   pub tiles : List Entry
   pub up : Bool

@@ -24,7 +24,7 @@ module _ (R : Reader) where
     abbrev pub longer : List Call
     longer = cs ++ (c ∷ [])
 
-    pub longer-length : length longer ≡ length cs + 1
+    longer-length : length longer ≡ length cs + 1
     longer-length = length-append cs (c ∷ [])
 
     -- ---- the calls of the shorter sequence, and the new one

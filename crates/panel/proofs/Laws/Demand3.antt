@@ -217,22 +217,22 @@ module _ (R : Reader) (cs : List Call) (p : Panel) (G : Invariant R cs p) where
 -- ---- no colour, no value
 
 module _ (p : Panel) (i now : ℕ) where
-  abbrev Blank : LookResult → Type 0
-  Blank r = (IsColoured (lookAnswer (r .answer) (r .value)) → ⊥) → r .value .len ≡ 0
+  abbrev EmptyValue : LookResult → Type 0
+  EmptyValue r = (IsColoured (lookAnswer (r .answer) (r .value)) → ⊥) → r .value .len ≡ 0
 
-  tile-blank : (x : Tile) → Blank (lookedAt p x now)
-  tile-blank x = blank (x .counted) (x .«since_link» && leb (now - x .clock) (x .«hold_time»)) (now - x .clock) (x .value)
+  tile-empty-value : (x : Tile) → EmptyValue (lookedAt p x now)
+  tile-empty-value x = empty-value (x .counted) (x .«since_link» && leb (now - x .clock) (x .«hold_time»)) (now - x .clock) (x .value)
     where
-      blank : (h c : Bool) (a : ℕ) (v : Value) → Blank (record { panel = p; answer = cond h (cond c (Green a) (Grey a)) Empty; value = cond h v noValue })
-      blank false c a v g = refl
-      blank true true a v g = absurd (g (inl (a, bytesOf v, refl)))
-      blank true false a v g = absurd (g (inr (a, bytesOf v, refl)))
+      empty-value : (h c : Bool) (a : ℕ) (v : Value) → EmptyValue (record { panel = p; answer = cond h (cond c (Green a) (Grey a)) Empty; value = cond h v noValue })
+      empty-value false c a v g = refl
+      empty-value true true a v g = absurd (g (inl (a, bytesOf v, refl)))
+      empty-value true false a v g = absurd (g (inr (a, bytesOf v, refl)))
 
-  look-blank : Blank (lookOf p i now)
-  look-blank =
+  look-empty-value : EmptyValue (lookOf p i now)
+  look-empty-value =
       by-zero (lookFault p i now)
-      (λ e. subst Blank (look-accepted p i now e) (tile-blank (getD (p .tiles) i noTile)))
-      (λ z. subst Blank (look-refused p i now _ refl z) (λ g. refl))
+      (λ e. subst EmptyValue (look-accepted p i now e) (tile-empty-value (getD (p .tiles) i noTile)))
+      (λ z. subst EmptyValue (look-refused p i now _ refl z) (λ g. refl))
 
 -- ---- demand 3
 
@@ -253,5 +253,5 @@ demand-3 =
           };
       refused = refused-kept;
       looked = panel-looked;
-      no-value = look-blank;
+      no-value = look-empty-value;
     }

@@ -85,9 +85,9 @@ module _ (R : Reader) (cs : List Call) (p : Panel) (G : Invariant R cs p) where
         (⊎-elim (λ o. omega (arith, h, G .known i k t m o)) (λ w. n i t m (w .1)) (counted-cases R cs c i k t m d))
 
     -- a call that neither counts nor links
-    quiet : summaryOf R (longer R cs c) ≡ b → ((i t : ℕ) (m : Message) → CountsFor R b c i t m → ⊥) → (LinkCall R b c → ⊥)
+    unchanged-invariant : summaryOf R (longer R cs c) ≡ b → ((i t : ℕ) (m : Message) → CountsFor R b c i t m → ⊥) → (LinkCall R b c → ⊥)
         → Invariant R (longer R cs c) p
-    quiet e n l =
+    unchanged-invariant e n l =
         record {
           agrees = subst (Agrees p) (sym e) (G .agrees);
           known = known-next b e (omega arith) (λ i t m d. absurd (n i t m d));
@@ -95,7 +95,7 @@ module _ (R : Reader) (cs : List Call) (p : Panel) (G : Invariant R cs p) where
         }
 
     refused-invariant : (numberOn R b c ≡ 0 → ⊥) → Invariant R (longer R cs c) p
-    refused-invariant z = quiet (book-kept z) (λ i t m d. z (d .counts)) (λ l. z (l .accepted))
+    refused-invariant z = unchanged-invariant (book-kept z) (λ i t m d. z (d .counts)) (λ l. z (l .accepted))
 
     -- an accepted link call
     link-invariant : (up : Bool) (t : ℕ) → isMessage c ≡ false → LinkCall R b c → b .clock ≤ t
@@ -261,7 +261,7 @@ module _ (R : Reader) (cs : List Call) (p : Panel) (G : Invariant R cs p) where
   accepted-invariant (linkUp t) o z = link-invariant (linkUp t) true t refl (record { link = tt; accepted = z }) (clock-passed (b .clock) t z) (book-next (linkUp t) z)
   accepted-invariant (linkDown t) o z = link-invariant (linkDown t) false t refl (record { link = tt; accepted = z }) (clock-passed (b .clock) t z) (book-next (linkDown t) z)
   accepted-invariant (message t s) o z = message-invariant t s o z
-  accepted-invariant (look i now) o z = quiet (look i now) (book-next (look i now) z) (no-count R b (look i now) refl) (λ l. l .link)
+  accepted-invariant (look i now) o z = unchanged-invariant (look i now) (book-next (look i now) z) (no-count R b (look i now) refl) (λ l. l .link)
 
   pub step : (c : Call) → OfBytes c → Invariant R (longer R cs c) (panelNext p c)
   step c o =

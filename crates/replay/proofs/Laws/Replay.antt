@@ -124,13 +124,13 @@ module _ (cs : List Call) (bytes : Each OfBytes cs) where
   performed-padded (message t s) = value-padded [] (omega arith)
   performed-padded (look i now) = demand-3 .claim (demand-3 .readers .some) cs bytes .padded i now
 
-  performed-blank : (c : Call) → (IsColoured (answerTo (panelAfter cs) c) → ⊥) → performed (panelAfter cs) c .answered .value .len ≡ 0
+  performed-empty-value : (c : Call) → (IsColoured (answerTo (panelAfter cs) c) → ⊥) → performed (panelAfter cs) c .answered .value .len ≡ 0
   unfolding performed
-  performed-blank (add t n h) z = refl
-  performed-blank (linkUp t) z = refl
-  performed-blank (linkDown t) z = refl
-  performed-blank (message t s) z = refl
-  performed-blank (look i now) z = demand-3 .no-value (panelAfter cs) i now z
+  performed-empty-value (add t n h) z = refl
+  performed-empty-value (linkUp t) z = refl
+  performed-empty-value (linkDown t) z = refl
+  performed-empty-value (message t s) z = refl
+  performed-empty-value (look i now) z = demand-3 .no-value (panelAfter cs) i now z
 
   performed-answers : (c : Call) → ((R : Reader) → Answers R cs c (answerTo (panelAfter cs) c)) → Says cs c (performed (panelAfter cs) c .answered)
   performed-answers c d =
@@ -139,7 +139,7 @@ module _ (cs : List Call) (bytes : Each OfBytes cs) where
         says = performed-says (panelAfter cs) c;
         answers = d;
         padded = performed-padded c;
-        no-value = performed-blank c;
+        no-value = performed-empty-value c;
       }
 
 -- ---- the call at a place
