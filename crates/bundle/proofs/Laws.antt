@@ -2,4 +2,3 @@ pub mod Children
 pub mod Written
 pub mod Read
 pub mod Bundles
-pub mod Parts

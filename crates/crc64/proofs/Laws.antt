@@ -31,13 +31,13 @@ cond-lt : (t : Bool) {a b n : ℕ} → a < n → b < n → cond t a b < n
 cond-lt true ha hb = ha
 cond-lt false ha hb = hb
 
-pub step-lt : (r b : ℕ) → bitStep r b < 2 ^ 64
+step-lt : (r b : ℕ) → bitStep r b < 2 ^ 64
 unfolding bitStep
 step-lt r b =
     let h : r * 2 % 2 ^ 64 < 2 ^ 64 = mod-lt (r * 2) (pow-pos 64) in
     cond-lt (eqb (r / 2 ^ 63) b) h (xor-lt 64 (r * 2 % 2 ^ 64) polynomial h (lit< tt))
 
-pub run-lt : (bs : List ℕ) (r : ℕ) → r < 2 ^ 64 → run r bs < 2 ^ 64
+run-lt : (bs : List ℕ) (r : ℕ) → r < 2 ^ 64 → run r bs < 2 ^ 64
 unfolding run
 run-lt [] r h = h
 run-lt (b ∷ bs) r h = run-lt bs (bitStep r b) (step-lt r b)
@@ -48,23 +48,23 @@ crc-lt s = run-lt (bits s) initial (lit< tt)
 
 -- ---- two parts, one after the other
 
-pub run-append : (u v : List ℕ) (r : ℕ) → run r (u ++ v) ≡ run (run r u) v
+run-append : (u v : List ℕ) (r : ℕ) → run r (u ++ v) ≡ run (run r u) v
 unfolding run
 run-append [] v r = refl
 run-append (b ∷ u) v r = run-append u v (bitStep r b)
 
-pub bits-append : (s t : List ℕ) → bits (s ++ t) ≡ bits s ++ bits t
+bits-append : (s t : List ℕ) → bits (s ++ t) ≡ bits s ++ bits t
 unfolding bits
 bits-append [] t = refl
 bits-append (x ∷ s) t = ap (λ (l : List ℕ). bitsOf x ++ l) (bits-append s t) ∙ sym (append-assoc (bitsOf x) (bits s) (bits t))
 
-pub crc-append : (s t : List ℕ) → crcOf (s ++ t) ≡ run (crcOf s) (bits t)
+crc-append : (s t : List ℕ) → crcOf (s ++ t) ≡ run (crcOf s) (bits t)
 unfolding crcOf
 crc-append s t = ap (run initial) (bits-append s t) ∙ run-append (bits s) (bits t) initial
 
 -- ---- one byte more
 
-pub crc-snoc : (s : List ℕ) (x : ℕ) → crcOf (s ++ (x ∷ [])) ≡ byteStep (crcOf s) x
+crc-snoc : (s : List ℕ) (x : ℕ) → crcOf (s ++ (x ∷ [])) ≡ byteStep (crcOf s) x
 unfolding byteStep bits bitsOf
 crc-snoc s x = crc-append s (x ∷ [])
 
@@ -73,11 +73,11 @@ crc-take-suc s i h = rw (add-one, take-suc s i 0) (crc-snoc (take i s) (getD s i
 
 -- ---- one bit of a byte more
 
-pub run-take-suc : (r : ℕ) (bs : List ℕ) (i : ℕ) → i < length bs → run r (take (i + 1) bs) ≡ bitStep (run r (take i bs)) (getD bs i 0)
+run-take-suc : (r : ℕ) (bs : List ℕ) (i : ℕ) → i < length bs → run r (take (i + 1) bs) ≡ bitStep (run r (take i bs)) (getD bs i 0)
 unfolding run
 run-take-suc r bs i h = rw (add-one, take-suc bs i 0) (run-append (take i bs) (getD bs i 0 ∷ []) r)
 
-pub bit-at : (x i : ℕ) → i < 8 → getD (bitsOf x) i 0 ≡ bitAt x i
+bit-at : (x i : ℕ) → i < 8 → getD (bitsOf x) i 0 ≡ bitAt x i
 unfolding bitsOf
 bit-at x zero h = refl
 bit-at x (suc zero) h = refl

@@ -33,14 +33,14 @@ unfolding imageFault
 fault-long c h = ap (λ (t : Bool). cond t (ruleFault (headerOf c) (length c - 72)) 9) (le-leb 72 (length c) h)
 
 -- what the reader's number is for the bytes of a header and pixels
-pub fault-encoded : (x : Image) → HeaderFits (x .header) → imageFault (encodeImage x) ≡ ruleFault (x .header) (length (x .pixels))
+fault-encoded : (x : Image) → HeaderFits (x .header) → imageFault (encodeImage x) ≡ ruleFault (x .header) (length (x .pixels))
 fault-encoded x f =
     let n : length (encodeImage x) ≡ 72 + length (x .pixels) = length-image x in
     let left : length (encodeImage x) - 72 ≡ length (x .pixels) = omega (arith, n) in
     fault-long (encodeImage x) (omega (arith, n)) ∙ ap₂ ruleFault (header-front x f) left
 
 -- an accepted content has a header that keeps the rule
-pub fault-none : (c : List ℕ) → imageFault c ≡ 0 → (72 ≤ length c) × (ruleFault (headerOf c) (length c - 72) ≡ 0)
+fault-none : (c : List ℕ) → imageFault c ≡ 0 → (72 ≤ length c) × (ruleFault (headerOf c) (length c - 72) ≡ 0)
 unfolding imageFault
 fault-none c h =
     let k = cond-pass (leb 72 (length c)) 8 (ruleFault (headerOf c) (length c - 72)) h in

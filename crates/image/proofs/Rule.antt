@@ -25,7 +25,7 @@ at-place P [] h z i = z i
 at-place P (n ∷ l) h z zero = h .0
 at-place P (n ∷ l) h z (suc i) = at-place (λ j. P (suc j)) l (h .1) (λ j. z (suc j)) i
 
-pub scalar-known : (s : ℕ) → 1 ≤ scalarSize s → ScalarType s (scalarSize s)
+scalar-known : (s : ℕ) → 1 ≤ scalarSize s → ScalarType s (scalarSize s)
 unfolding scalarSize
 scalar-known =
     let none : (i : ℕ) → 1 ≤ 0 → ScalarType i 0 = λ i h. absurd (omega arith) in

@@ -1,4 +1,4 @@
--- A content's layout is accepted exactly when some children are written as it, and only one list of children is. Assumes nothing.
+-- A content's layout is accepted exactly when some children are written as it, and only one list of children is.
 use mathlib.Core.Path.{_≡_, sym, ap, _∙_}
 use mathlib.Core.List.{List}
 use Prim.Native.Nat.{ℕ}
@@ -11,7 +11,7 @@ use Rattle.bundle.proofs.Laws.Children.{childrenOf}
 use Rattle.bundle.proofs.Laws.Written.{layout-written, children-written}
 use Rattle.bundle.proofs.Laws.Read.{encode-read, well-children}
 
-pub bundle-accepted : (s : List ℕ) → Bytes s → layoutFault s ≡ 0 → IsBundle s
+bundle-accepted : (s : List ℕ) → Bytes s → layoutFault s ≡ 0 → IsBundle s
 bundle-accepted s b h = (childrenOf s, well-children s h b, encode-read s h b)
 
 pub bundle-unique : (xs ys : List Child) → WellBundle xs → WellBundle ys → encodeChildren xs ≡ encodeChildren ys → xs ≡ ys

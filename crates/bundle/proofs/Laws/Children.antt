@@ -1,5 +1,5 @@
 -- One child: its header, its name and its data, each in front of further bytes. And the children that a BIND content holds, by a walk
--- down its headers, its name table and its data. Assumes nothing.
+-- down its headers, its name table and its data.
 use mathlib.Core.Path.{_≡_, refl, ap, ap₂, _∙_}
 use mathlib.Core.Bool.{true}
 use mathlib.Core.List.{List, [], _∷_, _++_, append-assoc}

@@ -1,4 +1,4 @@
--- What passes the walks is what its children are written as. Assumes nothing.
+-- What passes the walks is what its children are written as.
 use mathlib.Core.Path.{_≡_, refl, sym, ap, ap₂, subst, _∙_}
 use mathlib.Core.Bool.{true}
 use mathlib.Core.List.{List, [], _∷_, _++_, append-assoc}
@@ -29,7 +29,7 @@ module _ (n : ℕ) (d : List ℕ) (h : blockOk n d ≡ true) where
   unfolding blockOk
   block-fits = leb-true _ _ (and-split (leb n (length d)) _ h .0)
 
-  pub block-length : length (take n d) ≡ n
+  block-length : length (take n d) ≡ n
   block-length = length-take-le n d block-fits
 
   block-pad : padOk (n % 2) (drop n d) ≡ true
@@ -42,7 +42,7 @@ module _ (n : ℕ) (d : List ℕ) (h : blockOk n d ≡ true) where
       let k = and-split (leb (n % 2) (length (drop n d))) (allZero (take (n % 2) (drop n d))) block-pad in
       zeros-all (take (n % 2) (drop n d)) (k .1) ∙ ap (λ (m : ℕ). replicate m 0) (length-take-le (n % 2) (drop n d) (leb-true _ _ (k .0)))
 
-  pub block-back : padded (take n d) ++ afterBlock n d ≡ d
+  block-back : padded (take n d) ++ afterBlock n d ≡ d
   unfolding padded
   block-back =
       append-assoc (take n d) (replicate (length (take n d) % 2) 0) (afterBlock n d)
@@ -146,7 +146,7 @@ module _ (s : List ℕ) (h : layoutFault s ≡ 0) where
       let r = and-split (tableOk (count s) (tableOf s)) _ (q .1) in
       (p .0, q .0, r .0, r .1)
 
-  pub layout-fits : 4 + 20 * count s + tableSize s ≤ length s
+  layout-fits : 4 + 20 * count s + tableSize s ≤ length s
   layout-fits = leb-true (4 + 20 * count s + tableSize s) (length s) (parts-ok .0)
 
   table-halves : (length (tableOf s) % 2 ≡ 0) × (namesOk (count s) (tableOf s) ≡ true)
@@ -155,11 +155,11 @@ module _ (s : List ℕ) (h : layoutFault s ≡ 0) where
       let k = and-split (eqb (length (tableOf s) % 2) 0) (namesOk (count s) (tableOf s)) (parts-ok .2) in
       (eqb-true (length (tableOf s) % 2) 0 (k .0), k .1)
 
-  pub table-length : length (tableOf s) ≡ tableSize s
+  table-length : length (tableOf s) ≡ tableSize s
   table-length =
       length-part (tableSize s) 2 (afterHeaders s) (omega (arith, length-drop (2 + 20 * count s) s, layout-fits))
 
-  pub table-read : nameTable (childrenOf s) ≡ tableOf s
+  table-read : nameTable (childrenOf s) ≡ tableOf s
   unfolding nameTable padded
   table-read =
       let n = names-read (count s) (headers s) (tableOf s) (dataOf s) (table-halves .1) in

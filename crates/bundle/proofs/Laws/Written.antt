@@ -1,4 +1,4 @@
--- What is written from children: its parts are those of the children, its layout is accepted, and it is read back as them. Assumes nothing.
+-- What is written from children: its parts are those of the children, its layout is accepted, and it is read back as them.
 use mathlib.Core.Path.{_≡_, refl, sym, ap, ap₂, _∙_}
 use mathlib.Core.Bool.{Bool, true, cond, _&&_}
 use mathlib.Core.List.{List, [], _∷_, _++_, append-nil}
@@ -21,7 +21,7 @@ use Rattle.bundle.proofs.Laws.Children.{childrenFrom, childrenOf, lengt
 pub length-headers : (cs : List Child) → length (flat childHeader cs) ≡ 20 * length cs
 length-headers cs = length-flat childHeader 20 length-childHeader cs
 
-pub padded-even : (x : List ℕ) → length (padded x) % 2 ≡ 0
+padded-even : (x : List ℕ) → length (padded x) % 2 ≡ 0
 unfolding padded
 padded-even x = omega (arith, length-append x (replicate (length x % 2) 0), length-replicate {A = ℕ} (length x % 2) 0)
 
@@ -142,7 +142,7 @@ module _ (cs : List Child) where
         ∙ ap (drop (20 * length cs)) headers-written
         ∙ drop-at (flat childHeader cs) afterTypes (20 * length cs) (length-headers cs)
 
-    pub tableSize-written : tableSize (encodeChildren cs) ≡ length (nameTable cs)
+    tableSize-written : tableSize (encodeChildren cs) ≡ length (nameTable cs)
     tableSize-written =
         ap (λ (l : List ℕ). beVal (take 2 l)) after-written
         ∙ ap beVal (take-at (beBytes 2 (length (nameTable cs))) (nameTable cs ++ flat childData cs) 2 (length-beBytes 2 (length (nameTable cs))))

@@ -1,4 +1,4 @@
--- Look-ups in two bundles: the site's child of the name, else the default's. Assumes nothing.
+-- Look-ups in two bundles: the site's child of the name, else the default's.
 use Prim.Native.Nat.{ℕ, _≤_, _<_}
 use mathlib.Core.Path.{_≡_, sym, ap, ap₂, _∙_}
 use mathlib.Core.List.{List, []}

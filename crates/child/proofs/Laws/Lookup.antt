@@ -1,4 +1,4 @@
--- The walks of a look-up: one step of the search for a name, and where the data that is left stands. And the number. Assumes nothing.
+-- The walks of a look-up: one step of the search for a name, and where the data that is left stands. And the number.
 use Prim.Native.Nat.{ℕ, zero, suc, _+_, _-_, _*_, _%_, _≤_, _<_}
 use mathlib.Core.Path.{_≡_, refl, sym, ap, _∙_}
 use mathlib.Core.Bool.{false}

@@ -1,4 +1,4 @@
--- Look-ups in an accepted content give its children: those of the tree that is written as it. Assumes nothing.
+-- Look-ups in an accepted content give its children: those of the tree that is written as it.
 use Prim.Native.Nat.{ℕ, _+_, _-_, _*_, _%_, _≤_, _<_}
 use mathlib.Core.Path.{_≡_, refl, sym, ap, ap₂, subst, _∙_}
 use mathlib.Core.List.{List, [], _∷_, _++_}
@@ -78,7 +78,7 @@ module _ (number : ℕ) (s : List ℕ) (j : ℕ) where
   placed-refused h = simp (ne-eqb number 0 h)
 
 module _ (fault : ℕ) (s : List ℕ) (j : ℕ) (e : fault ≡ 0) where
-  pub number-found : j < count s → childNumber fault s j ≡ 0
+  number-found : j < count s → childNumber fault s j ≡ 0
   unfolding childNumber
   number-found h = else-second fault _ e ∙ simp (lt-ltb j (count s) h)
 
@@ -164,7 +164,7 @@ module _ (s : List ℕ) (cs : List Child) (n : ℕ) (c : Child) (h : HasChildren
   child-name = simp (eq-eqb _ 0 number-at) (ap textOf names-at ∙ name-text c well-child (flat childName after ++ pad s cs h))
 
 module _ (s : List ℕ) (cs : List Child) (h : HasChildren s cs) where
-  pub place-past : (n : ℕ) → length cs ≤ n → placeOf s n ≡ record { number = 19; at = 0; len = 0 }
+  place-past : (n : ℕ) → length cs ≤ n → placeOf s n ≡ record { number = 19; at = 0; len = 0 }
   place-past n l = place-none (bindFault deepest s) s n (accepted s cs h) (omega (arith, l, count-of s cs h))
 
   index-of : (x : List ℕ) → indexOf s x ≡ indexIn (length cs) (flat childName cs ++ pad s cs h) x

@@ -1,4 +1,4 @@
--- The walks over what children are written as: past some of them they come to the others. Assumes nothing.
+-- The walks over what children are written as: past some of them they come to the others.
 use Prim.Native.Nat.{ℕ, suc, _*_}
 use mathlib.Core.Path.{_≡_, refl, sym, ap, ap₂, subst, _∙_}
 use mathlib.Core.List.{List, [], _∷_, _++_, append-assoc, append-nil}

@@ -39,7 +39,7 @@ last-beBytes m n v h =
     ∙ ap (take (m - (m - n))) (drop-beBytes (m - n) n v)
     ∙ take-all (m - (m - n)) (beBytes n v) k
 
-pub beVal-lt : (l : List ℕ) → Bytes l → beVal l < 256 ^ length l
+beVal-lt : (l : List ℕ) → Bytes l → beVal l < 256 ^ length l
 unfolding beVal
 beVal-lt [] h = lit< tt
 beVal-lt (b ∷ bs) h = rw pow-succ' (digits-lt (h 0) (beVal-lt bs (bytes-tail b bs h)))
@@ -60,7 +60,7 @@ beBytes-above (suc n) q v =
     cc
 
 -- the bytes of the number that bytes spell are those bytes
-pub beBytes-beVal : (l : List ℕ) → Bytes l → beBytes (length l) (beVal l) ≡ l
+beBytes-beVal : (l : List ℕ) → Bytes l → beBytes (length l) (beVal l) ≡ l
 unfolding beBytes beVal
 beBytes-beVal [] h = refl
 beBytes-beVal (b ∷ bs) h =
@@ -104,7 +104,7 @@ beAt-past n at s h = ap beVal (ap (take n) (drop-of-length-le s h) ∙ take-nil 
 
 -- ---- the loop that reads: one byte more at the end
 
-pub beVal-snoc : (l : List ℕ) (b : ℕ) → beVal (l ++ (b ∷ [])) ≡ beVal l * 256 + b
+beVal-snoc : (l : List ℕ) (b : ℕ) → beVal (l ++ (b ∷ [])) ≡ beVal l * 256 + b
 unfolding beVal
 beVal-snoc [] b = omega arith
 beVal-snoc (x ∷ l) b =

@@ -164,7 +164,7 @@ sized-text (b ∷ bs) h =
     ∙ sized-cons (length bs) b (textOf bs)
     ∙ ap {B = List ℕ} (λ l. b ∷ l) (sized-text bs (ap allZero (sym (k .1)) ∙ h)))
 
-pub clean-text : (f : List ℕ) → textClean f ≡ true → textBytes (length f) (textOf f) ≡ f
+clean-text : (f : List ℕ) → textClean f ≡ true → textBytes (length f) (textOf f) ≡ f
 unfolding textClean textBytes
 clean-text f h = sized-text f h
 
@@ -191,11 +191,11 @@ pub textOf-textBytes : (w : ℕ) (t : List ℕ) → Text t → length t ≤ w �
 unfolding textBytes
 textOf-textBytes w t h k = sized-of w t h .0 ∙ take-all w t k
 
-pub textOk-textBytes : (w : ℕ) (t : List ℕ) → Text t → length t ≤ w → textOk (textBytes w t) ≡ true
+textOk-textBytes : (w : ℕ) (t : List ℕ) → Text t → length t ≤ w → textOk (textBytes w t) ≡ true
 unfolding textOk
 textOk-textBytes w t h k = ap isText (textOf-textBytes w t h k) ∙ text-is t h
 
-pub textClean-textBytes : (w : ℕ) (t : List ℕ) → Text t → textClean (textBytes w t) ≡ true
+textClean-textBytes : (w : ℕ) (t : List ℕ) → Text t → textClean (textBytes w t) ≡ true
 unfolding textClean textBytes
 textClean-textBytes w t h = sized-of w t h .1
 

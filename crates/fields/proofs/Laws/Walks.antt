@@ -1,4 +1,4 @@
--- A walk's answer by the number of steps left, as a loop that counts down meets it. Assumes nothing.
+-- A walk's answer by the number of steps left, as a loop that counts down meets it.
 use mathlib.Core.Path.{_≡_, ap}
 use Prim.Native.Nat.{ℕ, suc, _-_, _≤_, _<_}
 use native.Mathlib.Omega.{arith}

@@ -18,11 +18,11 @@ use Rattle.header.specs.Check.{headerOf, shortFault, textsFault, limitFa
 
 -- ---- check 1
 
-pub short-pass : (s : List ℕ) → 58 ≤ length s → shortFault s ≡ 0
+short-pass : (s : List ℕ) → 58 ≤ length s → shortFault s ≡ 0
 unfolding shortFault
 short-pass s h = ap (λ (t : Bool). cond t 0 1) (le-leb 58 (length s) h)
 
-pub short-refused : (s : List ℕ) → length s < 58 → shortFault s ≡ 1
+short-refused : (s : List ℕ) → length s < 58 → shortFault s ≡ 1
 unfolding shortFault
 short-refused s h = ap (λ (t : Bool). cond t 0 1) (lt-leb 58 (length s) h)
 

@@ -1,4 +1,4 @@
--- A body is accepted exactly when some sections are written as it; it is read as those sections. Assumes nothing.
+-- A body is accepted exactly when some sections are written as it; it is read as those sections.
 use Prim.Native.Nat.{ℕ, _+_, _-_, _≤_}
 use mathlib.Core.Path.{_≡_, refl, sym, ap, ap₂, _∙_, subst}
 use mathlib.Core.Logic.{inl, inr, ⊎-elim}
@@ -68,7 +68,7 @@ passed b h =
     let r = and-split (eqb (beAt 4 8 b) 0) _ (q .1) in
     record { long = leb-true _ _ (p .0); size = leb-true _ _ (q .0); reserved = eqb-true _ _ (r .0); fits = leb-true _ _ (r .1) }
 
-pub pass : (b : List ℕ) → Passed b → extendedOk b ≡ true
+pass : (b : List ℕ) → Passed b → extendedOk b ≡ true
 unfolding extendedOk
 pass b p =
     and-join (leb 12 (length b)) _ (le-leb 12 (length b) (p .long))
@@ -174,7 +174,7 @@ extended-read x h = from-front x (join (extendedFields x)) h (front x) (length-e
 
 -- ---- both versions
 
-pub sections-1 : (v : ℕ) (b : List ℕ) → v ≡ 1 → sectionsOf v b ≡ record { id = 0; further = []; content = b; metadata = [] }
+sections-1 : (v : ℕ) (b : List ℕ) → v ≡ 1 → sectionsOf v b ≡ record { id = 0; further = []; content = b; metadata = [] }
 sections-1 v b e = ap (λ (p : Places). sectionsAt p b) (places-1 v b (not-two v e)) ∙ plain-read b
 
 sections-2 : (v : ℕ) (b : List ℕ) → v ≡ 2 → sectionsOf v b ≡ sectionsAt (extendedPlaces b) b

@@ -1,4 +1,4 @@
--- Messages: the front of a stream is accepted exactly when some message is written as it. Assumes nothing.
+-- Messages: the front of a stream is accepted exactly when some message is written as it.
 use Prim.Native.Nat.{ℕ, _+_, _^_, _<_, _≤_}
 use mathlib.Core.Path.{_≡_, refl, sym, ap, ap₂, _∙_, subst}
 use mathlib.Core.Logic.{⊎-elim}
@@ -59,14 +59,14 @@ sections-passed m w =
 
 -- ---- a stream that begins with it
 
-pub begun-number : (s : List ℕ) (m : Message) → Begins s m → numberOf s ≡ 0
+begun-number : (s : List ℕ) (m : Message) → Begins s m → numberOf s ≡ 0
 begun-number s m b =
     ap numberOf (sym (b .bytes))
     ∙ parts-number (partsOf m) (b .rest) (header-of m (b .well))
     ∙ else-zero (limitFault (length (bodyOf (partsOf m)))) _ (limit-pass (length (bodyOf (partsOf m))) (b .well .size-limit))
     (checks-sections (partsOf m) (b .well .sections) ∙ sections-passed m (b .well))
 
-pub begun-parts : (s : List ℕ) (m : Message) → Begins s m → partsAt s ≡ partsOf m
+begun-parts : (s : List ℕ) (m : Message) → Begins s m → partsAt s ≡ partsOf m
 begun-parts s m b =
     let p : Parts = partsOf m in
     let f : HeaderFits (headerFor p) = header-of m (b .well) in
@@ -84,10 +84,10 @@ begun-parts s m b =
       sections = x i;
     }
 
-pub begun-handed : (s : List ℕ) (m : Message) → Begins s m → handed s (readOf s) ≡ partsOf m
+begun-handed : (s : List ℕ) (m : Message) → Begins s m → handed s (readOf s) ≡ partsOf m
 begun-handed s m b = handed-parts s (begun-number s m b) ∙ begun-parts s m b
 
-pub begun-step : (s : List ℕ) (m : Message) → Begins s m → readOf s .step ≡ length (encode m)
+begun-step : (s : List ℕ) (m : Message) → Begins s m → readOf s .step ≡ length (encode m)
 begun-step s m b =
     let p : Parts = partsOf m in
     let e : s ≡ _ = sym (b .bytes) ∙ parts-front p (b .rest) in

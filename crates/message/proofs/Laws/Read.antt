@@ -1,4 +1,4 @@
--- The reader's answer step by step, as the code makes it: r is what the header's reader answered. Assumes nothing.
+-- The reader's answer step by step, as the code makes it: r is what the header's reader answered.
 use Prim.Native.Nat.{ℕ, _+_, _<_, _≤_}
 use mathlib.Core.Path.{_≡_, sym, ap, ap₂, _∙_}
 use mathlib.Core.List.{List}

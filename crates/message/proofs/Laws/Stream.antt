@@ -1,4 +1,4 @@
--- A stream that begins with a header and a body: what the reader finds there, and what passes its checks. Assumes nothing.
+-- A stream that begins with a header and a body: what the reader finds there, and what passes its checks.
 use Prim.Native.Nat.{ℕ, zero, suc, _+_, _<_, _≤_}
 use mathlib.Core.Path.{_≡_, refl, sym, ap, ap₂, _∙_, subst}
 use mathlib.Core.Logic.{inl, inr, ⊎-elim}
@@ -159,11 +159,11 @@ number-accepted s h =
       content = e .1;
     }
 
-pub front-passed : (s : List ℕ) → numberOf s ≡ 0 → frontFault s ≡ 0
+front-passed : (s : List ℕ) → numberOf s ≡ 0 → frontFault s ≡ 0
 unfolding numberOf
 front-passed s h = zero-else (frontFault s) _ h .0
 
-pub front-whole : (s : List ℕ) → frontFault s ≡ 0 → 58 + headerOf s .bodySize ≤ length s
+front-whole : (s : List ℕ) → frontFault s ≡ 0 → 58 + headerOf s .bodySize ≤ length s
 unfolding frontFault
 front-whole s h = whole-passed s (zero-else (headerFault s) _ h .1)
 
@@ -196,7 +196,7 @@ pub step-none : (s : List ℕ) → (frontFault s ≡ 0 → ⊥) → stepOf s ≡
 unfolding stepOf
 step-none s h = ap (λ (t : Bool). cond t (58 + headerOf s .bodySize) 0) (ne-eqb (frontFault s) 0 h)
 
-pub read-step : (s : List ℕ) → readOf s .step ≡ stepOf s
+read-step : (s : List ℕ) → readOf s .step ≡ stepOf s
 read-step s =
     by-zero (numberOf s)
     (λ e. ap (λ (a : Answer). a .step) (read-accepted s e) ∙ sym (step-whole s (front-passed s e)))

@@ -1,4 +1,4 @@
--- The writer's checks: what passes them, and how they stand to the reader's. Assumes nothing.
+-- The writer's checks: what passes them, and how they stand to the reader's.
 use Prim.Native.Nat.{ℕ, _+_, _<_, _≤_}
 use mathlib.Core.Path.{_≡_, refl, sym, ap, ap₂, _∙_}
 use mathlib.Core.Logic.{inl, inr, ⊎-elim}
@@ -35,11 +35,11 @@ use Rattle.message.proofs.Laws.Stream.{version-pass, checks-rest, whole
 
 -- ---- check 6
 
-pub fit-1 : (v : ℕ) (x : Sections) → (v ≡ 2 → ⊥) → fitOk v x ≡ (eqb (x .id) 0 && (eqb (length (x .further)) 0 && eqb (length (x .metadata)) 0))
+fit-1 : (v : ℕ) (x : Sections) → (v ≡ 2 → ⊥) → fitOk v x ≡ (eqb (x .id) 0 && (eqb (length (x .further)) 0 && eqb (length (x .metadata)) 0))
 unfolding fits
 fit-1 v x h = simp (ne-eqb v 2 h)
 
-pub fit-2 : (v : ℕ) (x : Sections) → v ≡ 2 → fitOk v x ≡ (leb (12 + length (x .further)) 65535 && leb (length (x .metadata)) 65535)
+fit-2 : (v : ℕ) (x : Sections) → v ≡ 2 → fitOk v x ≡ (leb (12 + length (x .further)) 65535 && leb (length (x .metadata)) 65535)
 unfolding fits
 fit-2 v x h = simp (eq-eqb v 2 h)
 
@@ -114,7 +114,7 @@ plain-passed v x h k =
     }
 
 -- V 2
-pub sizes-pass : (v : ℕ) (x : Sections) → v ≡ 2 → 12 + length (x .further) ≤ 65535 → length (x .metadata) ≤ 65535 → fitOk v x ≡ true
+sizes-pass : (v : ℕ) (x : Sections) → v ≡ 2 → 12 + length (x .further) ≤ 65535 → length (x .metadata) ≤ 65535 → fitOk v x ≡ true
 sizes-pass v x h a b =
     fit-2 v x h ∙ and-join (leb (12 + length (x .further)) 65535) _ (le-leb (12 + length (x .further)) 65535 a) (le-leb (length (x .metadata)) 65535 b)
 
@@ -123,7 +123,7 @@ sizes-passed v x h k =
     let a = and-split (leb (12 + length (x .further)) 65535) _ (sym (fit-2 v x h) ∙ k) in
     (leb-true _ _ (a .0), leb-true _ _ (a .1))
 
-pub fit-pass : (v : ℕ) (x : Sections) → fitOk v x ≡ true → fitFault v x ≡ 0
+fit-pass : (v : ℕ) (x : Sections) → fitOk v x ≡ true → fitFault v x ≡ 0
 unfolding fitFault
 fit-pass v x h = ap (λ (t : Bool). cond t 0 6) h
 
@@ -131,7 +131,7 @@ pub fit-passed : (v : ℕ) (x : Sections) → fitFault v x ≡ 0 → fitOk v x �
 unfolding fitFault
 fit-passed v x h = cond-pass (fitOk v x) 5 0 h .0
 
-pub fit-refused : (v : ℕ) (x : Sections) → fitOk v x ≡ false → fitFault v x ≡ 6
+fit-refused : (v : ℕ) (x : Sections) → fitOk v x ≡ false → fitFault v x ≡ 6
 unfolding fitFault
 fit-refused v x h = ap (λ (t : Bool). cond t 0 6) h
 
@@ -251,7 +251,7 @@ filled out b at n e h =
     ∙ append-nil b
 
 -- what stands from there on
-pub rest-filled : (out b : List ℕ) (at n : ℕ) → at ≤ length out → drop at (putMid at n out b) ≡ b ++ drop (at + n) out
+rest-filled : (out b : List ℕ) (at n : ℕ) → at ≤ length out → drop at (putMid at n out b) ≡ b ++ drop (at + n) out
 rest-filled out b at n h =
     drop-at (take at out) (b ++ drop n (drop at out)) at (length-take-le at out h) ∙ ap (λ (r : List ℕ). b ++ r) (drop-drop n at out)
 

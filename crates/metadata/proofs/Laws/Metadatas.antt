@@ -1,4 +1,4 @@
--- Bytes are accepted exactly when some metadata is written as them, and only one is. Assumes nothing.
+-- Bytes are accepted exactly when some metadata is written as them, and only one is.
 use Prim.Native.Nat.{ℕ}
 use mathlib.Core.Path.{_≡_, refl, sym, ap, _∙_}
 use mathlib.Core.Logic.{_⊎_, inl, inr, ⊎-elim}

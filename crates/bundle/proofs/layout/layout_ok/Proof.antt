@@ -4,7 +4,7 @@ use native.Mathlib.Omega.{arith}
 use borrow.Author.Tests.{le-leb, lt-leb, not-true, not-false}
 use borrow.Author.Needs.{needs}
 use Rattle.bundle.specs.Layout.{tableSize, layoutOk}
-use Rattle.bundle.proofs.Laws.Parts.{count-lt}
+use Rattle.fields.proofs.Laws.Numbers.{beAt-lt}
 use Rattle.bundle.proofs.layout.layout_ok.Statement.{statement}
 use Rattle.bundle.proofs.layout.layout_ok.Tie as tie
 
@@ -21,13 +21,13 @@ cast-table-size : tie.Need-cast-table-size
 cast-table-size c = search needs
 
 mul-if1 : tie.Need-mul-if1
-mul-if1 c = omega (arith, count-lt (c .before .before .before .before .args .content .now) (λ i. c .before .before .before .shared-slice-known .given i .fits))
+mul-if1 c = omega (arith, beAt-lt 2 0 (c .before .before .before .before .args .content .now) (λ i. c .before .before .before .shared-slice-known .given i .fits))
 
 add-if1 : tie.Need-add-if1
-add-if1 c = omega (arith, count-lt (c .before .before .before .before .args .content .now) (λ i. c .before .before .before .shared-slice-known .given i .fits))
+add-if1 c = omega (arith, beAt-lt 2 0 (c .before .before .before .before .args .content .now) (λ i. c .before .before .before .shared-slice-known .given i .fits))
 
 add-if1-2 : tie.Need-add-if1-2
-add-if1-2 c = omega (arith, count-lt (c .before .before .before .before .args .content .now) (λ i. c .before .before .before .shared-slice-known .given i .fits))
+add-if1-2 c = omega (arith, beAt-lt 2 0 (c .before .before .before .before .args .content .now) (λ i. c .before .before .before .shared-slice-known .given i .fits))
 
 returns : tie.Need-returns
 unfolding layoutOk
