@@ -1,3 +1,4 @@
+# shellcheck shell=bash
 # For the scripts that run something built from crates/, which source it: where the repository is, and how a file is proved and built by
 # `rt` where it is missing or older than something in crates/.
 root=$(CDPATH='' cd -- "$(dirname -- "${BASH_SOURCE[0]}")/.." && pwd)

@@ -1,9 +1,9 @@
 //! The functions that crate `exports` has for other languages. A slice goes over as a pointer and a
 //! length, and any bytes and numbers are allowed: none of the functions has a precondition.
 //!
-//! Each wrapper below is sound for the same reason, which its SAFETY comment names in short: a
-//! pointer and a length come from one slice, which is lent for the call. A slice without bytes has a
-//! pointer too, which is not null. The functions keep none of the pointers.
+//! Each wrapper below is sound for the same reason, of which its SAFETY comment names the parts: a
+//! pointer and a length come from one slice, which is lent for the call. A slice without bytes has
+//! a pointer too, which is not null. The functions keep none of the pointers.
 
 pub mod compare;
 pub mod inputs;
@@ -12,8 +12,8 @@ pub mod tally;
 use reference::message::Message;
 
 mod archive {
-    // SAFETY: these are the signatures of `crates/exports/src/lib.rt`, where a slice is a pointer and
-    // a length, and a lent number a pointer.
+    // SAFETY: these are the signatures of `crates/exports/src/lib.rt`, where a slice is a pointer
+    // and a length, and a lent number a pointer.
     unsafe extern "C" {
         pub fn kudireppa_crc64(bytes: *const u8, len: usize) -> u64;
         pub fn kudireppa_content_number(

@@ -94,9 +94,9 @@ fn run(long: Vec<Long>, count: u64, seed: u64) -> ExitCode {
         }
         None => {
             tallies.print();
-            let long = run.long.len();
-            let answers = tallies.answers();
-            println!("{count} inputs and {long} long ones, {answers} answers, seed {seed}: no difference");
+            let (long, answers) = (run.long.len(), tallies.answers());
+            let total = format!("{count} inputs and {long} long ones, {answers} answers");
+            println!("{total}, seed {seed}: no difference");
             ExitCode::SUCCESS
         }
     }
@@ -158,10 +158,7 @@ impl Run {
     /// The next items, long ones one by one.
     fn batch(&self) -> std::ops::Range<u64> {
         let long = self.long.len() as u64;
-        let end = |start: u64| match start < long {
-            true => start + 1,
-            false => start + BATCH,
-        };
+        let end = |start: u64| start + if start < long { 1 } else { BATCH };
         let limit = self.items.min(self.first.load(Ordering::Relaxed));
         let take = |start| (start < limit).then(|| end(start));
         let taken = self

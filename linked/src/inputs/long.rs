@@ -1,5 +1,5 @@
-//! Long inputs, on both sides of the limit of a body and of what a BIND's fields hold. They are few,
-//! and the same in every run.
+//! Long inputs, on both sides of the limit of a body and of what a BIND's fields hold. They are
+//! few, and the same in every run.
 
 use super::messages::{mend, LIMIT};
 use super::Input;
