@@ -1,4 +1,4 @@
--- The examples, by computation. Assumes nothing.
+-- The examples, by computation.
 use mathlib.Core.Path.{refl}
 use Rattle.header.specs.Examples.{Examples}
 

@@ -1,5 +1,5 @@
 -- What the definitions say of a few time stamps.
-use Prim.Native.Nat.{ℕ, _+_, _*_, _^_}
+use Prim.Native.Nat.{_+_, _*_, _^_}
 use mathlib.Core.Path.{_≡_}
 use Rattle.header.specs.TimeStamp.{secondsOf, nanosecondsOf}
 

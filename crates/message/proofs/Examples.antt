@@ -1,4 +1,4 @@
--- The borders P4 to P6. Assumes nothing.
+-- The borders P4 to P6.
 use Prim.Native.Nat.{ℕ, _+_, _^_, _<_, _≤_}
 use mathlib.Core.Path.{_≡_, refl, ap, _∙_}
 use mathlib.Core.Logic.{inl, inr}
