@@ -1,0 +1,129 @@
+//! Fields of a byte layout: numbers, parts of a slice, texts. A read past the end leaves out what
+//! is not there, and a write past the end what does not fit.
+
+// ---- parts of a slice
+
+pub fn first(s: &[u8], n: usize) -> &[u8] {
+    s.get(..n).unwrap_or(s)
+}
+
+pub fn rest(s: &[u8], n: usize) -> &[u8] {
+    s.get(n..).unwrap_or(&[])
+}
+
+pub fn part(s: &[u8], at: usize, n: usize) -> &[u8] {
+    first(rest(s, at), n)
+}
+
+// ---- numbers
+
+fn be(s: &[u8], at: usize, n: usize) -> u64 {
+    part(s, at, n)
+        .iter()
+        .fold(0, |v, &byte| v * 256 + u64::from(byte))
+}
+
+pub fn be8(s: &[u8], at: usize) -> u8 {
+    be(s, at, 1) as u8
+}
+
+pub fn be16(s: &[u8], at: usize) -> u16 {
+    be(s, at, 2) as u16
+}
+
+pub fn be32(s: &[u8], at: usize) -> u32 {
+    be(s, at, 4) as u32
+}
+
+pub fn be64(s: &[u8], at: usize) -> u64 {
+    be(s, at, 8)
+}
+
+pub fn put16(v: u16, at: usize, out: &mut [u8]) {
+    put(&v.to_be_bytes(), at, out);
+}
+
+pub fn put32(v: u32, at: usize, out: &mut [u8]) {
+    put(&v.to_be_bytes(), at, out);
+}
+
+pub fn put64(v: u64, at: usize, out: &mut [u8]) {
+    put(&v.to_be_bytes(), at, out);
+}
+
+// ---- bytes into a buffer
+
+pub fn put(src: &[u8], at: usize, out: &mut [u8]) {
+    let room = out.get_mut(at..).unwrap_or_default();
+    let n = src.len().min(room.len());
+    room[..n].copy_from_slice(&src[..n]);
+}
+
+pub fn sized<const N: usize>(s: &[u8]) -> [u8; N] {
+    let mut a = [0; N];
+    put(s, 0, &mut a);
+    a
+}
+
+// ---- texts
+
+pub fn is_text(t: &[u8]) -> bool {
+    t.iter().all(|&b| b != 0 && b < 128)
+}
+
+pub fn text_len(s: &[u8]) -> usize {
+    s.iter().position(|&b| b == 0).unwrap_or(s.len())
+}
+
+pub fn text_of(s: &[u8]) -> &[u8] {
+    first(s, text_len(s))
+}
+
+pub fn past_text(s: &[u8]) -> &[u8] {
+    rest(s, text_len(s) + 1)
+}
+
+pub fn all_zero(s: &[u8]) -> bool {
+    s.iter().all(|&b| b == 0)
+}
+
+pub fn is_text_field(f: &[u8]) -> bool {
+    is_text(text_of(f)) && all_zero(past_text(f))
+}
+
+pub fn put_text12(t: &[u8], at: usize, out: &mut [u8]) {
+    put(&sized::<12>(t), at, out);
+}
+
+pub fn put_text20(t: &[u8], at: usize, out: &mut [u8]) {
+    put(&sized::<20>(t), at, out);
+}
+
+#[cfg(test)]
+mod tests {
+    use super::*;
+
+    #[test]
+    fn numbers_past_the_end() {
+        assert_eq!(be64(&[1, 2, 3], 1), 0x0203);
+        assert_eq!(be32(&[1, 2, 3], 4), 0);
+        assert_eq!(be16(&[1, 2, 3], 1), 0x0203);
+    }
+
+    #[test]
+    fn text_fields() {
+        assert!(is_text_field(b"Arm\0\0"));
+        assert!(is_text_field(b"\0\0"));
+        assert!(is_text_field(b"full"));
+        assert!(!is_text_field(b"Arm\0a"));
+        assert!(!is_text_field(b"\x80\0"));
+    }
+
+    #[test]
+    fn writes_past_the_end() {
+        let mut out = [9; 4];
+        put16(0x0102, 3, &mut out);
+        put16(0x0304, 5, &mut out);
+        assert_eq!(out, [9, 9, 9, 1]);
+    }
+}

@@ -1,0 +1,138 @@
+//! The header of a message: 58 bytes.
+
+use super::fields::{
+    be16, be64, is_text, is_text_field, part, put16, put64, put_text12, put_text20, text_len,
+    text_of,
+};
+
+pub struct HeaderRead {
+    pub number: u8,
+    pub version: u16,
+    pub type_len: usize,
+    pub name_len: usize,
+    pub time_stamp: u64,
+    pub body_size: usize,
+    pub crc: u64,
+}
+
+pub struct HeaderFields {
+    pub version: u16,
+    pub time_stamp: u64,
+    pub body_size: usize,
+    pub crc: u64,
+}
+
+pub fn type_text(stream: &[u8]) -> &[u8] {
+    text_of(part(stream, 2, 12))
+}
+
+fn size_at(stream: &[u8]) -> usize {
+    be64(stream, 42) as usize
+}
+
+fn texts_fault(stream: &[u8]) -> u8 {
+    if is_text_field(part(stream, 2, 12)) && is_text_field(part(stream, 14, 20)) {
+        0
+    } else {
+        2
+    }
+}
+
+fn limit_fault(size: usize) -> u8 {
+    if size <= 16_777_216 {
+        0
+    } else {
+        3
+    }
+}
+
+fn header_fault(stream: &[u8]) -> u8 {
+    if stream.len() < 58 {
+        return 1;
+    }
+    let fault = texts_fault(stream);
+    if fault != 0 {
+        return fault;
+    }
+    limit_fault(size_at(stream))
+}
+
+fn refused(number: u8) -> HeaderRead {
+    HeaderRead {
+        number,
+        version: 0,
+        type_len: 0,
+        name_len: 0,
+        time_stamp: 0,
+        body_size: 0,
+        crc: 0,
+    }
+}
+
+fn handed(stream: &[u8]) -> HeaderRead {
+    HeaderRead {
+        number: 0,
+        version: be16(stream, 0),
+        type_len: text_len(part(stream, 2, 12)),
+        name_len: text_len(part(stream, 14, 20)),
+        time_stamp: be64(stream, 34),
+        body_size: size_at(stream),
+        crc: be64(stream, 50),
+    }
+}
+
+pub fn read_header(stream: &[u8]) -> HeaderRead {
+    let fault = header_fault(stream);
+    if fault != 0 {
+        return refused(fault);
+    }
+    handed(stream)
+}
+
+pub fn names_number(type_text: &[u8], device_name: &[u8]) -> u8 {
+    let fits = type_text.len() <= 12 && device_name.len() <= 20;
+    if fits && is_text(type_text) && is_text(device_name) {
+        0
+    } else {
+        2
+    }
+}
+
+fn write_fault(header: &HeaderFields, type_text: &[u8], device_name: &[u8], room: usize) -> u8 {
+    let names = names_number(type_text, device_name);
+    if names != 0 {
+        return names;
+    }
+    let limit = limit_fault(header.body_size);
+    if limit != 0 {
+        return limit;
+    }
+    if 58 <= room {
+        0
+    } else {
+        20
+    }
+}
+
+fn put_header(header: &HeaderFields, type_text: &[u8], device_name: &[u8], out: &mut [u8]) {
+    put16(header.version, 0, out);
+    put_text12(type_text, 2, out);
+    put_text20(device_name, 14, out);
+    put64(header.time_stamp, 34, out);
+    put64(header.body_size as u64, 42, out);
+    put64(header.crc, 50, out);
+}
+
+pub fn write_header(
+    header: &HeaderFields,
+    type_text: &[u8],
+    device_name: &[u8],
+    out: &mut [u8],
+) -> Result<usize, u8> {
+    let fault = write_fault(header, type_text, device_name, out.len());
+    if fault != 0 {
+        return Err(fault);
+    }
+    put_header(header, type_text, device_name, out);
+    Ok(58)
+}

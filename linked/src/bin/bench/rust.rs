@@ -1,0 +1,71 @@
+//! The Rust side's functions. The archive's are called and never inlined; so are these.
+
+use crate::baseline::message::{self, Answer};
+use crate::baseline::replay::{self, CallAnswer};
+use crate::baseline::{content, crc64};
+use linked::Answered;
+use reference::message::Message;
+
+#[inline(never)]
+pub fn crc64(bytes: &[u8]) -> u64 {
+    crc64::crc64(bytes)
+}
+
+#[inline(never)]
+pub fn content_number(type_text: &[u8], content: &[u8]) -> u8 {
+    content::content_number(type_text, content)
+}
+
+#[inline(never)]
+pub fn read(stream: &[u8]) -> Answer {
+    message::read(stream)
+}
+
+/// The numbers of an answer, in the order of `linked::read_fields`.
+pub fn read_fields(stream: &[u8]) -> [u64; linked::FIELDS] {
+    let answer = read(stream);
+    [
+        answer.number.into(),
+        answer.step as u64,
+        answer.version.into(),
+        answer.type_len as u64,
+        answer.name_len as u64,
+        answer.time_stamp,
+        answer.id.into(),
+        answer.further_at as u64,
+        answer.further_len as u64,
+        answer.content_at as u64,
+        answer.content_len as u64,
+        answer.metadata_at as u64,
+        answer.metadata_len as u64,
+    ]
+}
+
+/// The number of the answer and the bytes written, as `linked::write` gives them.
+#[inline(never)]
+pub fn write(message: &Message, out: &mut [u8]) -> (u8, usize) {
+    match message::write(message, out) {
+        Ok(count) => (0, count),
+        Err(number) => (number, 0),
+    }
+}
+
+/// What a look after all calls of a script shows, as `linked::look_after` gives it.
+#[inline(never)]
+pub fn look_after(script: &[u8], tile: usize, clock: u64) -> Answered {
+    let answered = replay::look_after(script, tile, clock);
+    let (kind, number) = match answered.answer {
+        CallAnswer::Accepted => (0, 0),
+        CallAnswer::Added(tile) => (1, tile as u64),
+        CallAnswer::Empty => (2, 0),
+        CallAnswer::Green(age) => (3, age),
+        CallAnswer::Grey(age) => (4, age),
+        CallAnswer::Refused(number) => (5, number.into()),
+    };
+    Answered {
+        kind,
+        number,
+        value_len: answered.value.len as u64,
+        value: answered.value.bytes,
+    }
+}
