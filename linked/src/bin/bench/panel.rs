@@ -3,8 +3,8 @@
 
 use crate::inputs;
 use crate::rust;
-use crate::table::{nanoseconds, ratio};
-use crate::timing::{alternate, timer};
+use crate::table::{nanoseconds, print_rows, Per, Row};
+use crate::timing::{alternate, timer, Times};
 use reference::panel::Call;
 use std::hint::black_box;
 
@@ -17,63 +17,61 @@ const CLOCK: u64 = 10_000;
 /// The bytes of a panel, as the archive copies it.
 const PANEL: usize = 1_936;
 
-/// What `linked::Answered` has for these answers.
+/// The kinds of these answers in `linked::Answered`.
 const ACCEPTED: u64 = 0;
 const GREEN: u64 = 3;
 const REFUSED: u64 = 5;
 
+/// A call for a tile at a clock.
+type Make = fn(u64, u64) -> Call;
+
+/// What is timed, each with the kind of its answer.
+const TIMED: [(&str, u64, Make); 5] = [
+    ("link up", ACCEPTED, |_, clock| Call::LinkUp { clock }),
+    ("message that counts", ACCEPTED, inputs::pose),
+    ("message refused, clock", REFUSED, |tile, _| {
+        inputs::pose(tile, 0)
+    }),
+    ("look", GREEN, |tile, clock| Call::Look { tile, clock }),
+    ("add refused, there", REFUSED, |tile, _| inputs::add(tile)),
+];
+
 pub fn print_costs() {
     for tiles in [1, 16] {
-        println!();
-        let title = format!("panel of {tiles}, a call");
-        println!(
-            "{title:<25}{:>12}{:>12}{:>7}",
-            "ours, ns", "Rust, ns", "ratio"
-        );
-        let print = |name, answer, call: &dyn Fn(u64, u64) -> Call| {
-            print_cost(name, tiles, answer, call);
-        };
-        print("link up", ACCEPTED, &|_, clock| Call::LinkUp { clock });
-        print("message that counts", ACCEPTED, &inputs::pose);
-        print("message refused, clock", REFUSED, &|tile, _| {
-            inputs::pose(tile, 0)
-        });
-        print("look", GREEN, &|tile, clock| Call::Look { tile, clock });
-        print("add refused, there", REFUSED, &|tile, _| inputs::add(tile));
+        let rows = TIMED.map(|(name, answer, make)| cost(name, answer, tiles, make));
+        print_rows(&format!("panel, tiles: {tiles}"), Per::Call, &rows);
     }
     print_parts();
 }
 
-/// The cost of a call, made of the last tile and a clock, which is answered so.
-fn print_cost(name: &str, tiles: u64, answer: u64, call: &dyn Fn(u64, u64) -> Call) {
-    let script = |n| inputs::panel_script(tiles, n, |clock| call(tiles - 1, clock));
-    let scripts = [script(CALLS), script(2 * CALLS)];
-    let place = (tiles + 2 + CALLS - 1) as usize;
-    let last = linked::answer_at(&scripts[0], place);
+/// The cost of a call for the last tile.
+fn cost(name: &str, answer: u64, tiles: u64, make: Make) -> Row {
+    let tile = tiles - 1;
+    let script = |n| inputs::panel_script(tiles, n, |clock| make(tile, clock));
+    let (short, long) = (script(CALLS), script(2 * CALLS));
+    let last = linked::answer_at(&short, (tiles + 2 + CALLS - 1) as usize);
     assert_eq!(last.kind, answer, "{name}");
-    let [ours, rust] = costs(&scripts, tiles as usize - 1);
-    println!(
-        "{name:<25}{:>12}{:>12}{:>7}",
-        nanoseconds(ours),
-        nanoseconds(rust),
-        ratio(ours, rust)
-    );
+    let ours = |script: &[u8]| linked::look_after(black_box(script), tile as usize, CLOCK);
+    let rust = |script: &[u8]| rust::look_after(black_box(script), tile as usize, CLOCK);
+    assert_eq!(ours(&short), rust(&short), "{name}");
+    assert_eq!(ours(&long), rust(&long), "{name}");
+    let [ours_short, ours_long, rust_short, rust_long] = alternate([
+        timer(|| ours(&short)),
+        timer(|| ours(&long)),
+        timer(|| rust(&short)),
+        timer(|| rust(&long)),
+    ]);
+    let times = [more(ours_short, ours_long), more(rust_short, rust_long)];
+    Row::new(name, 1, times)
 }
 
-/// Both sides' costs of the calls that the longer script has more.
-fn costs([short, long]: &[Vec<u8>; 2], tile: usize) -> [f64; 2] {
-    let ours = |script: &[u8]| linked::look_after(black_box(script), tile, CLOCK);
-    let rust = |script: &[u8]| rust::look_after(black_box(script), tile, CLOCK);
-    assert_eq!(ours(short), rust(short));
-    assert_eq!(ours(long), rust(long));
-    let times = alternate([
-        timer(|| ours(short)),
-        timer(|| ours(long)),
-        timer(|| rust(short)),
-        timer(|| rust(long)),
-    ]);
-    let [ours_short, ours_long, rust_short, rust_long] = times.map(|times| times.median);
-    [ours_long - ours_short, rust_long - rust_short].map(|more| more / CALLS as f64)
+/// What each call costs that the longer script has more.
+fn more(short: Times, long: Times) -> Times {
+    let calls = CALLS as f64;
+    Times {
+        median: (long.median - short.median) / calls,
+        least: (long.least - short.least) / calls,
+    }
 }
 
 /// What a message call does among other things, and the copy of a panel's bytes, for scale.

@@ -21,18 +21,21 @@ impl Row {
     }
 }
 
-/// What the last two columns of a table say: megabytes a second, or nanoseconds for each child.
+/// What the last two columns of a table say: megabytes a second, nanoseconds for each child, or
+/// nothing.
 #[derive(Clone, Copy)]
 pub enum Per {
     Byte,
     Child,
+    Call,
 }
 
 impl Per {
-    fn heading(self) -> &'static str {
+    fn headings(self) -> [&'static str; 2] {
         match self {
-            Per::Byte => "MB/s",
-            Per::Child => "ns/child",
+            Per::Byte => ["MB/s", "Rust"],
+            Per::Child => ["ns/child", "Rust"],
+            Per::Call => ["", ""],
         }
     }
 
@@ -40,55 +43,60 @@ impl Per {
         match self {
             Per::Byte => format!("{:.1}", units as f64 * 1e3 / nanoseconds),
             Per::Child => format!("{:.1}", nanoseconds / units as f64),
+            Per::Call => String::new(),
         }
     }
 }
 
 pub fn print_rows(title: &str, per: Per, rows: &[Row]) {
-    let rate = per.heading();
     println!();
-    print_cells(
-        title,
-        [
-            "ours, ns",
-            "Rust, ns",
-            "ratio",
-            "least ours",
-            "least Rust",
-            "ratio",
-            rate,
-            "Rust",
-        ]
-        .map(str::to_owned),
-    );
-    for row in rows {
-        let Row { ours, rust, .. } = row;
-        print_cells(
-            &row.name,
-            [
-                nanoseconds(ours.median),
-                nanoseconds(rust.median),
-                ratio(ours.median, rust.median),
-                nanoseconds(ours.least),
-                nanoseconds(rust.least),
-                ratio(ours.least, rust.least),
-                per.rate(row.units, ours.median),
-                per.rate(row.units, rust.median),
-            ],
-        );
+    print_headings(title, per);
+    for Row {
+        name,
+        units,
+        ours,
+        rust,
+    } in rows
+    {
+        let cells = [
+            nanoseconds(ours.median),
+            nanoseconds(rust.median),
+            ratio(ours.median, rust.median),
+            nanoseconds(ours.least),
+            nanoseconds(rust.least),
+            ratio(ours.least, rust.least),
+            per.rate(*units, ours.median),
+            per.rate(*units, rust.median),
+        ];
+        print_line(name, &cells);
     }
 }
 
-fn print_cells(name: &str, cells: [String; 8]) {
+fn print_headings(title: &str, per: Per) {
+    let [rate, rust_rate] = per.headings();
+    let headings = [
+        "ours, ns",
+        "Rust, ns",
+        "ratio",
+        "least ours",
+        "least Rust",
+        "ratio",
+        rate,
+        rust_rate,
+    ];
+    print_line(title, &headings.map(str::to_owned));
+}
+
+fn print_line(name: &str, cells: &[String; 8]) {
     const WIDTHS: [usize; 8] = [12, 12, 7, 12, 12, 7, 10, 8];
-    print!("{name:<25}");
+    let mut line = format!("{name:<25}");
     for (cell, width) in cells.iter().zip(WIDTHS) {
-        print!("{cell:>width$}");
+        line += &format!("{cell:>width$}");
     }
-    println!();
+    println!("{}", line.trim_end());
 }
 
-pub fn ratio(a: f64, b: f64) -> String {
+fn ratio(a: f64, b: f64) -> String {
     format!("{:.2}", a / b)
 }
 

@@ -4,10 +4,10 @@ use std::hint::black_box;
 use std::time::{Duration, Instant};
 
 /// Odd, so that one of them is the median.
-pub const SAMPLES: usize = 15;
+pub const SAMPLES: usize = 31;
 
 /// What a sample takes at least: far more than reading the clock does.
-pub const SAMPLE_TIME: Duration = Duration::from_millis(10);
+pub const SAMPLE_TIME: Duration = Duration::from_millis(5);
 
 /// Nanoseconds that a call takes.
 #[derive(Clone, Copy)]

@@ -20,7 +20,7 @@ struct Tile {
     used: bool,
     label: Label,
     hold_time: u64,
-    heard: bool,
+    counted: bool,
     since_link: bool,
     clock: u64,
     value: Value,
@@ -96,7 +96,7 @@ fn new_tile(label: Label, hold_time: u64) -> Tile {
         used: true,
         label,
         hold_time,
-        heard: false,
+        counted: false,
         since_link: false,
         clock: 0,
         value: NO_VALUE,
@@ -114,12 +114,12 @@ fn relink(tile: Tile) -> Tile {
     }
 }
 
-fn hear(tile: Tile, label: Label, clock: u64, value: Value) -> Tile {
+fn count_for(tile: Tile, label: Label, clock: u64, value: Value) -> Tile {
     if !is_tile(tile, label) {
         return tile;
     }
     Tile {
-        heard: true,
+        counted: true,
         since_link: true,
         clock,
         value,
@@ -128,7 +128,7 @@ fn hear(tile: Tile, label: Label, clock: u64, value: Value) -> Tile {
 }
 
 fn show(tile: Tile, now: u64) -> LookAnswer {
-    if !tile.heard {
+    if !tile.counted {
         return LookAnswer::Empty;
     }
     let age = now.saturating_sub(tile.clock);
@@ -240,7 +240,7 @@ impl Panel {
         let value = value_of(read.content(bytes));
         CallResult {
             panel: Panel {
-                tiles: self.tiles.map(|tile| hear(tile, label, clock, value)),
+                tiles: self.tiles.map(|tile| count_for(tile, label, clock, value)),
                 link: Link { up: true, clock },
             },
             number: 0,
@@ -257,7 +257,7 @@ impl Panel {
         LookResult {
             panel: self,
             answer: show(shown, clock),
-            value: if shown.heard { shown.value } else { NO_VALUE },
+            value: if shown.counted { shown.value } else { NO_VALUE },
         }
     }
 }

@@ -87,6 +87,8 @@ fn after_look(result: LookResult) -> Performed {
 
 // ---- running a script
 
+// Two functions of the archive call it, so that it is not inlined there; nor is it here.
+#[inline(never)]
 fn perform(panel: Panel, script: &[u8]) -> Performed {
     let clock = be64(script, 1);
     let number = be64(script, 9);
