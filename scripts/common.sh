@@ -1,6 +1,6 @@
 # shellcheck shell=bash
-# For the scripts that run something built from crates/, which source it: where the repository is, and how a file is proved and built by
-# `rt` where it is missing or older than something in crates/.
+# For the scripts that run something built from crates/, which source it: where the repository is, how a file is proved and built by `rt`
+# where it is missing or older than something in crates/, and how a program of linked/ is built.
 root=$(CDPATH='' cd -- "$(dirname -- "${BASH_SOURCE[0]}")/.." && pwd)
 
 fail() {
@@ -21,4 +21,13 @@ build() {
     echo "${0##*/}: proving and building ${file##*/}; the first time takes some minutes" >&2
     said=$(cd "$root" && rt "$@" 2>&1) || fail "rt $* failed:"$'\n'"$said"
     touch "$file"
+}
+
+# build_linked PROGRAM: a program of linked/, over the proved library's archive.
+build_linked() {
+    local archive=$root/target/staticlib/libexports.a
+    command -v cargo >/dev/null || fail "no cargo on the PATH: it is needed to build linked/"
+    build "$archive" staticlib exports
+    ARCHIVE=${archive%/*} CARGO_TARGET_DIR=${1%/release/*} \
+        cargo build --quiet --release --offline --locked --manifest-path "$root/linked/Cargo.toml" --bin "${1##*/}"
 }

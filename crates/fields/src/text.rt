@@ -69,10 +69,12 @@ pub fn all_zero(s: &[u8]) -> bool
 pub fn is_text_field(f: &[u8]) -> bool
     ensures { λ r. ⌜ r ≡ fieldOk (now (f .entry)) ⌝ }
 {
-    if !is_text(text_of(f)) {
+    let text = text_of(f);
+    if !is_text(text) {
         return false;
     }
-    all_zero(past_text(f))
+    // Not `past_text`, which would search for the first 0 again.
+    all_zero(crate::slice::rest(f, text.len() + 1))
 }
 
 // Writes a text into a field of 12 bytes at a place: the text, then zeros. What does not fit the field is left out.

@@ -88,7 +88,8 @@ pub fn all_zero(s: &[u8]) -> bool {
 }
 
 pub fn is_text_field(f: &[u8]) -> bool {
-    is_text(text_of(f)) && all_zero(past_text(f))
+    let text = text_of(f);
+    is_text(text) && all_zero(rest(f, text.len() + 1))
 }
 
 pub fn put_text12(t: &[u8], at: usize, out: &mut [u8]) {
