@@ -21,6 +21,7 @@ examples =
       p8-longer-length = refl;
       p8-longer = refl;
       short-transform = refl;
+      bytes = refl;
       level-4 = refl;
       level-5 = refl;
       level-5-any-bytes = refl;

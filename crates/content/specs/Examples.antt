@@ -27,6 +27,9 @@ pub record Examples : Type 0 where
   pub p8-longer-length : length (oneChild transformText (65 ∷ 66 ∷ []) (replicate 48 0)) ≡ 76
   pub p8-longer : bindFault deepest (oneChild transformText (65 ∷ 66 ∷ []) (replicate 48 0)) ≡ 0
   pub short-transform : bindFault deepest (oneChild transformText (65 ∷ []) (replicate 47 0)) ≡ 8
+  -- byte by byte: N_CHILD; CTYPE "T" and CSIZE; NAME_TABLE_SIZE; the table, name "N"; the data and their pad
+  pub bytes : oneChild (84 ∷ []) (78 ∷ []) (7 ∷ [])
+      ≡ 0 ∷ 1 ∷ 84 ∷ 0 ∷ 0 ∷ 0 ∷ 0 ∷ 0 ∷ 0 ∷ 0 ∷ 0 ∷ 0 ∷ 0 ∷ 0 ∷ 0 ∷ 0 ∷ 0 ∷ 0 ∷ 0 ∷ 0 ∷ 0 ∷ 1 ∷ 0 ∷ 2 ∷ 78 ∷ 0 ∷ 7 ∷ 0 ∷ []
   -- level 4 is the deepest
   pub level-4 : bindFault deepest (within (within (within noChildren))) ≡ 0
   pub level-5 : bindFault deepest (within (within (within (within noChildren)))) ≡ 11

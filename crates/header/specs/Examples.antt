@@ -1,6 +1,7 @@
--- What the definitions say of a few time stamps.
+-- What the definitions say of a few time stamps, and of the limit.
 use Prim.Native.Nat.{_+_, _*_, _^_}
 use mathlib.Core.Path.{_≡_}
+use Rattle.header.specs.Check.{limitFault}
 use Rattle.header.specs.TimeStamp.{secondsOf, nanosecondsOf}
 
 pub record Examples : Type 0 where
@@ -11,3 +12,6 @@ pub record Examples : Type 0 where
   pub least : nanosecondsOf 1 ≡ 0
   pub rounded-down : nanosecondsOf 5 ≡ 1
   pub largest : nanosecondsOf 0xFFFFFFFFFFFFFFFF ≡ 999999999
+  -- BODY_SIZE is at most 16,777,216
+  pub at-limit : limitFault 16777216 ≡ 0
+  pub above-limit : limitFault 16777217 ≡ 3

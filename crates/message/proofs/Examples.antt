@@ -1,4 +1,4 @@
--- The borders P4 to P6.
+-- The borders P4 to P6; the body by computation.
 use Prim.Native.Nat.{ℕ, _+_, _^_, _<_, _≤_}
 use mathlib.Core.Path.{_≡_, refl, ap, _∙_}
 use mathlib.Core.Logic.{inl, inr}
@@ -124,4 +124,5 @@ p6 t n stamp b tt′ tl nt nl s bs l =
     ∙ ap (λ (k : ℕ). refused 6 (58 + k)) l
 
 pub examples : Examples
-examples = record { p4 = λ s h. refusals .short s (omega arith); p5 = p5; p6 = p6 }
+unfolding encodeBody beBytes
+examples = record { p4 = λ s h. refusals .short s (omega arith); p5 = p5; p6 = p6; body = refl }

@@ -1,4 +1,4 @@
--- Examples of document 01: its borders P4 to P6.
+-- Examples of document 01: its borders P4 to P6, and a body byte by byte.
 use Prim.Native.Nat.{ℕ, _^_, _<_, _≤_}
 use mathlib.Core.Path.{_≡_}
 use mathlib.Core.List.{List, [], _∷_, _++_}
@@ -8,6 +8,7 @@ use Rattle.fields.specs.Numbers.{beBytes}
 use Rattle.fields.specs.Text.{Text, textBytes}
 use Rattle.fields.specs.Layout.{join}
 use Rattle.crc64.specs.Crc.{crcOf}
+use Rattle.message.specs.Body.{Sections, encodeBody}
 use Rattle.message.specs.Check.{refused, readOf, contentIn}
 
 -- a message of version 2 with this type, name, stamp and body, and the body's CRC
@@ -31,6 +32,10 @@ getStatusText = 71 ∷ 69 ∷ 84 ∷ 95 ∷ 83 ∷ 84 ∷ 65 ∷ 84 ∷ 85 ∷ 8
 abbrev pub body12 : ℕ → List ℕ
 body12 id = 0 ∷ 12 ∷ 0 ∷ 0 ∷ (beBytes 4 id ++ (0 ∷ 0 ∷ 0 ∷ 0 ∷ []))
 
+-- MSG_ID 6, further byte 7, content 08 08, metadata 09 09 09
+abbrev pub sixToNine : Sections
+sixToNine = record { id = 6; further = 7 ∷ []; content = 8 ∷ 8 ∷ []; metadata = 9 ∷ 9 ∷ 9 ∷ [] }
+
 pub record Accepted70 (s : List ℕ) : Type 0 where
   pub number : readOf s .number ≡ 0
   pub step : readOf s .step ≡ 70
@@ -45,3 +50,5 @@ pub record Examples : Type 0 where
   -- P6: body 11 with its CRC, for every type, name, stamp and body
   pub p6 : (t n : List ℕ) (stamp : ℕ) (b : List ℕ) → Text t → length t ≤ 12 → Text n → length n ≤ 20 → stamp < 256 ^ 8 → Bytes b → length b ≡ 11
       → readOf (ofVersion2 t n stamp b) ≡ refused 6 69
+  -- a body of V 2 byte by byte: EXT_HEADER_SIZE, METADATA_SIZE, MSG_ID, reserved; further bytes; content; metadata
+  pub body : encodeBody 2 sixToNine ≡ 0 ∷ 13 ∷ 0 ∷ 3 ∷ 0 ∷ 0 ∷ 0 ∷ 6 ∷ 0 ∷ 0 ∷ 0 ∷ 0 ∷ 7 ∷ 8 ∷ 8 ∷ 9 ∷ 9 ∷ 9 ∷ []

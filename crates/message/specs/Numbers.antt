@@ -3,11 +3,11 @@ use Prim.Native.Nat.{ℕ, _+_, _^_, _<_, _≤_}
 use mathlib.Core.Path.{_≡_}
 use mathlib.Core.Logic.{_⊎_}
 use mathlib.Core.List.{List, _++_}
-use lib.ListN.{length}
+use lib.ListN.{length, drop}
 use Rattle.fields.specs.Bytes.{Bytes}
 use Rattle.fields.specs.Numbers.{beAt}
 use Rattle.fields.specs.Checks.{orElse}
-use Rattle.fields.specs.Answer.{writtenNumber, roomFault}
+use Rattle.fields.specs.Answer.{writtenNumber, writtenCount, roomFault}
 use Rattle.crc64.specs.Crc.{crcOf}
 use Rattle.header.specs.Header.{Header, WellTexts, WellHeader, encodeHeader, limit}
 use Rattle.header.specs.Headers.{BeginsWith, TextsHeld}
@@ -15,7 +15,7 @@ use Rattle.metadata.specs.Metadatas.{IsMetadata}
 use Rattle.content.specs.Check.{contentFault, deepest}
 use Rattle.message.specs.Body.{Sections, Plain, WellSections, encodeBody}
 use Rattle.message.specs.Message.{Parts, bodyOf, encodeParts}
-use Rattle.message.specs.Check.{refused, readOf}
+use Rattle.message.specs.Check.{refused, readOf, handed}
 use Rattle.message.specs.Bodies.{IsVersion, BreaksExtended}
 use Rattle.message.specs.Writer.{messageWritten, messageOut}
 
@@ -72,6 +72,13 @@ pub record Given (p : Parts) : Type 0 where
 abbrev pub Unfit : ℕ → Sections → Type 0
 Unfit version x = ((version ≡ 1) × (Plain x → ⊥)) ⊎ ((version ≡ 2) × ((256 ^ 2 ≤ 12 + length (x .further)) ⊎ (256 ^ 2 ≤ length (x .metadata))))
 
+-- what was written is accepted, and handed out as what was given; the bytes beyond are as they were
+pub record ReadBack (p : Parts) (out : List ℕ) : Type 0 where
+  pub count : writtenCount (messageWritten p (length out)) ≡ length (encodeParts p)
+  pub bytes : messageOut p out ≡ encodeParts p ++ drop (length (encodeParts p)) out
+  pub accepted : readOf (encodeParts p) .number ≡ 0
+  pub handed-out : handed (encodeParts p) (readOf (encodeParts p)) ≡ p
+
 pub record WriterNumbers : Type 0 where
   pub names : (p : Parts) (room : ℕ) → (WellTexts (p .typeText) (p .deviceName) → ⊥) → writtenNumber (messageWritten p room) ≡ 2
   pub too-long : (p : Parts) (room : ℕ) → WellTexts (p .typeText) (p .deviceName) → limit < length (bodyOf p)
@@ -83,3 +90,5 @@ pub record WriterNumbers : Type 0 where
       → writtenNumber (messageWritten p room) ≡ orElse (readOf (encodeParts p) .number) (roomFault (length (encodeParts p)) room)
   -- a refusal leaves the buffer as it was
   pub untouched : (p : Parts) (out : List ℕ) → (writtenNumber (messageWritten p (length out)) ≡ 0 → ⊥) → messageOut p out ≡ out
+  -- else it writes that message
+  pub read-back : (p : Parts) (out : List ℕ) → Given p → writtenNumber (messageWritten p (length out)) ≡ 0 → ReadBack p out

@@ -1,6 +1,6 @@
 -- Messages: the front of a stream is accepted exactly when some message is written as it.
 use Prim.Native.Nat.{ℕ, _+_, _^_, _<_, _≤_}
-use mathlib.Core.Path.{_≡_, refl, sym, ap, ap₂, _∙_, subst}
+use mathlib.Core.Path.{_≡_, refl, sym, ap, _∙_, subst}
 use mathlib.Core.Logic.{⊎-elim}
 use mathlib.Core.List.{List, _++_}
 use native.Mathlib.Omega.{arith}
@@ -32,9 +32,9 @@ use Rattle.message.specs.Demand2.{Begins, givenBack, Demand2}
 use Rattle.header.proofs.Laws.Layout.{header-fits}
 use Rattle.header.proofs.Laws.Faults.{names-pass, limit-pass}
 use Rattle.metadata.proofs.Laws.Metadatas.{metadatas}
-use Rattle.message.proofs.Laws.Body.{body-accepted, body-back, body-read}
-use Rattle.message.proofs.Laws.Stream.{Accepted, number-accepted, read-accepted, read-number, number-read, version-pass, partsAt, handed-parts, parts-back, whole-header, whole-body}
-use Rattle.message.proofs.Laws.Writer.{well-fit, well-version, length-parts, parts-front, parts-number, checks-sections}
+use Rattle.message.proofs.Laws.Body.{body-accepted, body-back}
+use Rattle.message.proofs.Laws.Stream.{Accepted, number-accepted, read-accepted, read-number, number-read, version-pass, partsAt, handed-parts, parts-back, whole-header}
+use Rattle.message.proofs.Laws.Writer.{well-fit, well-version, length-parts, parts-front, parts-number, checks-sections, parts-read}
 
 -- ---- a well formed message
 
@@ -67,22 +67,7 @@ begun-number s m b =
     (checks-sections (partsOf m) (b .well .sections) ∙ sections-passed m (b .well))
 
 begun-parts : (s : List ℕ) (m : Message) → Begins s m → partsAt s ≡ partsOf m
-begun-parts s m b =
-    let p : Parts = partsOf m in
-    let f : HeaderFits (headerFor p) = header-of m (b .well) in
-    let e : s ≡ _ = sym (b .bytes) ∙ parts-front p (b .rest) in
-    let h : headerOf s ≡ headerFor p = ap headerOf e ∙ whole-header (headerFor p) (bodyOf p) (b .rest) f refl in
-    let k : bodyAt s ≡ bodyOf p = ap bodyAt e ∙ whole-body (headerFor p) (bodyOf p) (b .rest) f refl in
-    let x : sectionsOf (headerOf s .version) (bodyAt s) ≡ p .sections =
-    ap₂ sectionsOf (ap (λ (g : Header). g .version) h) k ∙ body-read (p .version) (p .sections) (b .well .sections) in
-    λ i.
-    record {
-      version = h i .version;
-      typeText = h i .typeText;
-      deviceName = h i .deviceName;
-      timeStamp = h i .timeStamp;
-      sections = x i;
-    }
+begun-parts s m b = ap partsAt (sym (b .bytes)) ∙ parts-read (partsOf m) (b .rest) (header-of m (b .well)) (b .well .sections)
 
 begun-handed : (s : List ℕ) (m : Message) → Begins s m → handed s (readOf s) ≡ partsOf m
 begun-handed s m b = handed-parts s (begun-number s m b) ∙ begun-parts s m b

@@ -9,11 +9,11 @@ use native.Mathlib.Nat.{lt-of-not-le}
 use lib.ListN.{length}
 use Rattle.fields.specs.Bytes.{Bytes}
 use Rattle.fields.specs.Checks.{orElse}
-use Rattle.fields.specs.Answer.{writtenNumber, roomFault}
+use Rattle.fields.specs.Answer.{writtenNumber, writtenCount, roomFault}
 use Rattle.fields.proofs.Laws.Bytes.{bytes-part}
-use Rattle.fields.proofs.Laws.Checks.{else-fault, else-second}
+use Rattle.fields.proofs.Laws.Checks.{zero-else, else-fault, else-second}
 use Rattle.fields.proofs.Laws.Tests.{by-test, by-zero, is-false, true-false}
-use Rattle.fields.proofs.Laws.Answer.{written-number, out-refused}
+use Rattle.fields.proofs.Laws.Answer.{written-wrote, written-number, out-wrote, out-refused}
 use Rattle.crc64.specs.Crc.{crcOf}
 use Rattle.crc64.proofs.Laws.{crc-lt}
 use Rattle.header.specs.declared.HeaderRead.{HeaderRead}
@@ -30,15 +30,15 @@ use Rattle.message.specs.Message.{Parts, bodyOf, headerFor, encodeParts}
 use Rattle.message.specs.Check.{refused, versionFault, bodyFault, sectionsFault, placesOf, sectionsOf, bodyChecks, bodyAt, frontFault, numberOf, readOf}
 use Rattle.message.specs.Writer.{fitOk, sectionsChecks, writeChecks, writeFault, messageWritten, messageOut}
 use Rattle.message.specs.Bodies.{IsVersion, BreaksExtended}
-use Rattle.message.specs.Numbers.{Whole, Sound, LaidOut, Refusals, Given, Unfit, WriterNumbers}
+use Rattle.message.specs.Numbers.{Whole, Sound, LaidOut, Refusals, Given, Unfit, ReadBack, WriterNumbers}
 use Rattle.header.proofs.Laws.Layout.{header-read, header-number}
-use Rattle.header.proofs.Laws.Faults.{names-pass, names-broken, limit-pass, header-read-number}
+use Rattle.header.proofs.Laws.Faults.{names-pass, names-passed, names-broken, limit-pass, header-read-number}
 use Rattle.header.proofs.Laws.Headers.{headers}
 use Rattle.metadata.proofs.Laws.Metadatas.{metadatas}
 use Rattle.message.proofs.Laws.Body.{body-well, body-read, extended-refused}
-use Rattle.message.proofs.Laws.Stream.{is-some, whole-refused, version-pass, version-passed, version-refused, checks-version, checks-crc, checks-body, checks-rest, whole-header, whole-body, whole-front, read-number}
+use Rattle.message.proofs.Laws.Stream.{is-some, whole-refused, version-pass, version-passed, version-refused, checks-version, checks-crc, checks-body, checks-rest, whole-header, whole-body, whole-front, read-number, partsAt, handed-parts, number-read}
 use Rattle.message.proofs.Laws.Read.{front-refused, header-refused, body-refused}
-use Rattle.message.proofs.Laws.Writer.{plain-pass, plain-passed, sizes-passed, fit-passed, well-fit, sections-version, sections-unfit, sections-rest, write-names, write-texts, write-limit, write-rest, parts-number, checks-sections}
+use Rattle.message.proofs.Laws.Writer.{plain-pass, plain-passed, sizes-passed, fit-passed, well-fit, sections-version, sections-unfit, sections-rest, write-names, write-texts, write-limit, write-rest, parts-number, checks-sections, writable, parts-read}
 
 -- ---- a refusal before a step is known
 
@@ -218,6 +218,26 @@ unfolding messageOut
 says-untouched p out h =
     out-refused (writeFault p (length out)) (encodeParts p) out (λ z. h (number-fault p (length out) ∙ z))
 
+says-read-back : (p : Parts) (out : List ℕ) → Given p → writtenNumber (messageWritten p (length out)) ≡ 0 → ReadBack p out
+unfolding messageWritten messageOut writeFault
+says-read-back p out g h =
+    let z : writeFault p (length out) ≡ 0 = sym (number-fault p (length out)) ∙ h in
+    let w = writable p (zero-else (writeChecks p) _ z .0) in
+    let t = names-passed (p .typeText) (p .deviceName) (w .names) in
+    let fit : Unfit (p .version) (p .sections) → ⊥ =
+    λ u. true-false (fitOk (p .version) (p .sections)) (w .fit) (unfit-refused (p .version) (p .sections) u) in
+    let a : readOf (encodeParts p) .number ≡ 0 =
+    zero-else (readOf (encodeParts p) .number) _ (sym (says-reader p (length out) g t fit) ∙ h) .0 in
+    record {
+      count = ap writtenCount (written-wrote (writeFault p (length out)) (length (encodeParts p)) z);
+      bytes = out-wrote (writeFault p (length out)) (encodeParts p) out z;
+      accepted = a;
+      handed-out =
+          handed-parts (encodeParts p) (number-read (encodeParts p) a)
+          ∙ ap partsAt (sym (append-nil (encodeParts p)))
+          ∙ parts-read p [] (given-header p g t) (fit-well p g (w .version) fit);
+    }
+
 pub writer-numbers : WriterNumbers
 writer-numbers =
-    record { names = says-names; too-long = says-too-long; unfit = says-unfit; as-reader = says-reader; untouched = says-untouched }
+    record { names = says-names; too-long = says-too-long; unfit = says-unfit; as-reader = says-reader; untouched = says-untouched; read-back = says-read-back }

@@ -20,18 +20,18 @@ use Rattle.fields.proofs.Laws.Answer.{written-wrote, written-refused, out-wrote
 use Rattle.fields.specs.declared.Written.the-variants.{Wrote, Refused}
 use Rattle.crc64.specs.Crc.{crcOf}
 use Rattle.header.specs.Header.{Header, HeaderFits, encodeHeader, limit}
-use Rattle.header.specs.Check.{namesFault, limitFault, headerOut}
+use Rattle.header.specs.Check.{headerOf, namesFault, limitFault, headerOut}
 use Rattle.header.specs.Check as header
 use Rattle.message.specs.Body.{Sections, Plain, WellSections, encodeBody}
 use Rattle.message.specs.Message.{Parts, bodyOf, headerFor, encodeParts}
-use Rattle.message.specs.Check.{versionFault, sectionsFault, bodyChecks, numberOf}
+use Rattle.message.specs.Check.{versionFault, sectionsFault, sectionsOf, bodyChecks, bodyAt, numberOf}
 use Rattle.message.specs.Writer.{bodyLength, fits, fitOk, fitFault, sectionsChecks, writeChecks, writeFault, messageWritten, messageOut}
 use Rattle.message.specs.Bodies.{IsVersion}
 use Rattle.header.proofs.Laws.Layout.{length-header}
 use Rattle.header.proofs.Laws.Writer.{write-room, out-header}
 use Rattle.header.proofs.Laws.Faults.{limit-pass, limit-passed, limit-refused}
 use Rattle.message.proofs.Laws.Body.{body-well, body-read, length-1, length-2}
-use Rattle.message.proofs.Laws.Stream.{version-pass, checks-rest, whole-number}
+use Rattle.message.proofs.Laws.Stream.{version-pass, version-passed, checks-rest, whole-number, partsAt, whole-header, whole-body}
 
 -- ---- check 6
 
@@ -199,6 +199,7 @@ module _ (p : Parts) where
 pub record Writable (p : Parts) : Type 0 where
   pub names : namesFault (p .typeText) (p .deviceName) ≡ 0
   pub short : length (bodyOf p) ≤ limit
+  pub version : IsVersion (p .version)
   pub fit : fitOk (p .version) (p .sections) ≡ true
 
 pub writable : (p : Parts) → writeChecks p ≡ 0 → Writable p
@@ -211,6 +212,7 @@ writable p h =
     record {
       names = a .0;
       short = limit-passed (length (bodyOf p)) (b .0);
+      version = version-passed (p .version) (c .0);
       fit = fit-passed (p .version) (p .sections) (d .0);
     }
 
@@ -228,6 +230,23 @@ parts-front p rest = append-assoc (encodeHeader (headerFor p)) (bodyOf p) rest
 pub parts-number : (p : Parts) (rest : List ℕ) → HeaderFits (headerFor p)
     → numberOf (encodeParts p ++ rest) ≡ orElse (limitFault (length (bodyOf p))) (bodyChecks (p .version) (crcOf (bodyOf p)) (p .typeText) (bodyOf p))
 parts-number p rest f = ap numberOf (parts-front p rest) ∙ whole-number (headerFor p) (bodyOf p) rest f refl
+
+-- what stands in them: the message itself
+pub parts-read : (p : Parts) (rest : List ℕ) → HeaderFits (headerFor p) → WellSections (p .version) (p .sections) → partsAt (encodeParts p ++ rest) ≡ p
+parts-read p rest f w =
+    let s : List ℕ = encodeParts p ++ rest in
+    let h : headerOf s ≡ headerFor p = ap headerOf (parts-front p rest) ∙ whole-header (headerFor p) (bodyOf p) rest f refl in
+    let k : bodyAt s ≡ bodyOf p = ap bodyAt (parts-front p rest) ∙ whole-body (headerFor p) (bodyOf p) rest f refl in
+    let x : sectionsOf (headerOf s .version) (bodyAt s) ≡ p .sections =
+    ap₂ sectionsOf (ap (λ (g : Header). g .version) h) k ∙ body-read (p .version) (p .sections) w in
+    λ i.
+    record {
+      version = h i .version;
+      typeText = h i .typeText;
+      deviceName = h i .deviceName;
+      timeStamp = h i .timeStamp;
+      sections = x i;
+    }
 
 -- where the sections can be written, those are the metadata's and the content's
 pub checks-sections : (p : Parts) → WellSections (p .version) (p .sections) → bodyChecks (p .version) (crcOf (bodyOf p)) (p .typeText) (bodyOf p) ≡ sectionsFault (p .typeText) (p .sections)
