@@ -1,5 +1,5 @@
-//! Inputs for the comparison. Each is made from a seed and its number alone; what it is answered
-//! has no part in its making.
+//! Inputs for the comparison. Each is made from a seed and its number alone, without the proved
+//! library, but for the CRCs of the long ones (`long`).
 
 #![forbid(unsafe_code)]
 

@@ -1,8 +1,9 @@
 //! Long inputs, on both sides of the limit of a body and of what a BIND's fields hold. They are
 //! few, and the same in every run.
 
-use super::messages::{mend, LIMIT};
+use super::messages::{mend_with, LIMIT};
 use super::Input;
+use crate::crc64;
 use reference::content::image::Header;
 use reference::random::Random;
 use reference::vectors::patched::Patched;
@@ -113,12 +114,13 @@ fn stream(version: u16, body: usize) -> Vec<u8> {
     encoded(&sample)
 }
 
-/// The bytes of a sample. Its CRC is made by the faster of the two, and compared all the same.
+/// The bytes of a sample. Its CRC is the proved library's, as the reference takes long over 16 MiB:
+/// if it were wrong, the reference would refuse the message, which shows as a difference.
 fn encoded(sample: &Sample) -> Vec<u8> {
     let mut fields = Fields::of(sample);
     fields.crc = Some(0);
     let mut stream = fields.bytes();
-    mend(&mut stream);
+    mend_with(crc64, &mut stream);
     stream
 }
 

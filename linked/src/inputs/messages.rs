@@ -4,7 +4,7 @@ use super::contents::{self, Typed};
 use super::damage::{add, change, edge, lengthen, number, resize, set};
 use super::stock::Stock;
 use super::{any_or_few, Input};
-use crate::crc64;
+use reference::crc::crc;
 use reference::random::Random;
 use reference::vectors::samples::Sample;
 use reference::vectors::{metadata, streams};
@@ -233,10 +233,15 @@ fn mend_by_chance(random: &mut Random, stream: &mut [u8]) {
 }
 
 /// Gives the message at the front the CRC of what is there of its body.
-pub fn mend(stream: &mut [u8]) {
+fn mend(stream: &mut [u8]) {
+    mend_with(crc, stream);
+}
+
+/// The same with another function for the CRC.
+pub fn mend_with(crc: impl Fn(&[u8]) -> u64, stream: &mut [u8]) {
     let size = number(stream, BODY_SIZE);
     let rest = stream.get(HEADER..).unwrap_or_default();
     let length = usize::try_from(size).map_or(rest.len(), |size| size.min(rest.len()));
-    let crc = crc64(&rest[..length]);
+    let crc = crc(&rest[..length]);
     set(stream, CRC, crc);
 }
