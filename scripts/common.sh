@@ -12,15 +12,19 @@ is_current() {
     [ -e "$1" ] && [ -z "$(find "$root/crates.txt" "$root/crates" -newer "$1" -print -quit)" ]
 }
 
-# build FILE WORD ..: `rt WORD ..` writes the file. What `rt` prints is shown only where it fails.
+# build FILE WORD ..: `rt WORD ..` writes the file. What `rt` prints is shown only where it fails. The file gets the time of the start, as `rt`
+# keeps one that is right, and so that a source edited meanwhile is newer.
 build() {
-    local file=$1 said
+    local file=$1 stamp=$root/target/${1##*/}.start said
     shift
     ! is_current "$file" || return 0
     command -v rt >/dev/null || fail "no rt on the PATH: the Rattle toolchain is needed to build ${file##*/}"
     echo "${0##*/}: proving and building ${file##*/}; the first time takes some minutes" >&2
+    mkdir -p "$root/target"
+    touch "$stamp"
     said=$(cd "$root" && rt "$@" 2>&1) || fail "rt $* failed:"$'\n'"$said"
-    touch "$file"
+    [ -e "$file" ] || fail "rt $* wrote no ${file#"$root"/}:"$'\n'"$said"
+    touch -r "$stamp" "$file"
 }
 
 # build_linked PROGRAM: a program of linked/, over the proved library's archive.
