@@ -1,6 +1,6 @@
 // What the readers of headers answer:
 //
-//   H stream   the header's number and fields, its CRC as 16 hexadecimal digits; the type and the device name
+//   H stream   the header's number and fields, its CRC as 16 hexadecimal digits; the type and the device name, of a refused header too
 //   s stamp    the seconds and the nanoseconds of a time stamp of eight bytes
 use vector_records::print_bytes;
 use vector_records::print_crc;
@@ -15,8 +15,8 @@ pub fn print_header(stream: &[u8]) {
     print_number(read.time_stamp);
     print_number(read.body_size as u64);
     print_crc(read.crc);
-    print_bytes(fields::slice::part(stream, 2, read.type_len));
-    print_bytes(fields::slice::part(stream, 14, read.name_len));
+    print_bytes(header::type_text(stream));
+    print_bytes(header::device_name(stream));
 }
 
 pub fn print_stamp(stamp: &[u8]) {

@@ -44,6 +44,7 @@ fn header_case(stream: &[u8]) -> Case {
     let header = Header::parse(stream);
     let answer = number(&header);
     let header = header.unwrap_or_default();
+    let [type_text, device_name] = Header::texts(stream);
     Case::of_kind('H')
         .given(stream)
         .number(answer)
@@ -51,8 +52,8 @@ fn header_case(stream: &[u8]) -> Case {
         .numbers([header.type_text.len(), header.device_name.len()])
         .numbers([header.time_stamp, header.body_size])
         .bytes(&header.crc.to_be_bytes())
-        .bytes(header.type_text)
-        .bytes(header.device_name)
+        .bytes(type_text)
+        .bytes(device_name)
 }
 
 fn read_headers(random: &mut Random) -> Vec<Case> {
