@@ -22,7 +22,7 @@ fn index_in(table: &[u8], name: &[u8], n: usize) -> usize
     i
 }
 
-pub fn index_of(content: &[u8], name: &[u8]) -> usize
+pub(crate) fn index_of(content: &[u8], name: &[u8]) -> usize
     ensures { λ r. ⌜ r ≡ indexOf (now (content .entry)) (now (name .entry)) ⌝ }
 {
     index_in(
@@ -33,7 +33,7 @@ pub fn index_of(content: &[u8], name: &[u8]) -> usize
 }
 
 // What is left of a name table from name i on.
-pub fn names_from(table: &[u8], i: usize) -> &[u8]
+pub(crate) fn names_from(table: &[u8], i: usize) -> &[u8]
     ensures { λ r. ⌜ now r ≡ namesFrom i (now (table .entry)) ⌝ }
 {
     let mut t = table;
@@ -47,7 +47,7 @@ pub fn names_from(table: &[u8], i: usize) -> &[u8]
 }
 
 // What is left of the data from child i's on, by the sizes in the headers.
-pub fn data_from(content: &[u8], i: usize) -> &[u8]
+pub(crate) fn data_from(content: &[u8], i: usize) -> &[u8]
     ensures { λ r. ⌜ now r ≡ dataFrom i (headers (now (content .entry))) (dataOf (now (content .entry))) ⌝ }
 {
     let mut h = bundle::parts::headers(content);
@@ -64,7 +64,7 @@ pub fn data_from(content: &[u8], i: usize) -> &[u8]
 }
 
 // The header of child i, and those after it. The product is formed only where so many headers are there.
-pub fn headers_from(content: &[u8], i: usize) -> &[u8]
+pub(crate) fn headers_from(content: &[u8], i: usize) -> &[u8]
     ensures { λ r. ⌜ now r ≡ headersFrom i (now (content .entry)) ⌝ }
 {
     let h = bundle::parts::headers(content);
