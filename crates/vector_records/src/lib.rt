@@ -1,4 +1,4 @@
-// What the vector program reads and writes: the records of its input, and the words of its lines. A record is a length of
+// What the vector programs read and write: the records of an input, and the words of a line. A record is a length of
 // two bytes, big endian, and then that many bytes; so is each field of a record.
 use fields::Written;
 use libc::STDOUT_FILENO;
