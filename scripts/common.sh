@@ -1,11 +1,21 @@
 # shellcheck shell=bash
-# For the scripts that run something built from crates/, which source it: where the repository is, how a file is proved and built by `rt`
-# where it is missing or older than something in crates/, and how a program of linked/ is built.
+# For the scripts that build and run something, which source it: where the repository is, how a file is proved and built by `rt` where it is
+# missing or older than something in crates/, and how cargo is run for linked/.
 root=$(CDPATH='' cd -- "$(dirname -- "${BASH_SOURCE[0]}")/.." && pwd)
 
 fail() {
     echo "${0##*/}: $1" >&2
     exit 1
+}
+
+usage() {
+    echo "usage: $1" >&2
+    exit 2
+}
+
+# needs PROGRAM WHY
+needs() {
+    command -v "$1" >/dev/null || fail "no $1 on the PATH: $2"
 }
 
 is_current() {
@@ -18,7 +28,7 @@ build() {
     local file=$1 stamp=$root/target/${1##*/}.start said
     shift
     ! is_current "$file" || return 0
-    command -v rt >/dev/null || fail "no rt on the PATH: the Rattle toolchain is needed to build ${file##*/}"
+    needs rt "the Rattle toolchain is needed to build ${file##*/}"
     echo "${0##*/}: proving and building ${file##*/}; the first time takes some minutes" >&2
     mkdir -p "$root/target"
     touch "$stamp"
@@ -27,11 +37,11 @@ build() {
     touch -r "$stamp" "$file"
 }
 
-# build_linked PROGRAM: a program of linked/, over the proved library's archive.
-build_linked() {
+# cargo_linked build PROGRAM, cargo_linked test PROGRAM: of a program of linked/, over the proved library's archive.
+cargo_linked() {
     local archive=$root/target/staticlib/libexports.a
-    command -v cargo >/dev/null || fail "no cargo on the PATH: it is needed to build linked/"
+    needs cargo "it is needed to build linked/"
     build "$archive" staticlib exports
-    ARCHIVE=${archive%/*} CARGO_TARGET_DIR=${1%/release/*} \
-        cargo build --quiet --release --offline --locked --manifest-path "$root/linked/Cargo.toml" --bin "${1##*/}"
+    ARCHIVE=${archive%/*} CARGO_TARGET_DIR=$root/target/linked \
+        cargo "$1" --quiet --release --offline --locked --manifest-path "$root/linked/Cargo.toml" --bin "$2"
 }
