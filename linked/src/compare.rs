@@ -64,13 +64,23 @@ fn same<T: PartialEq + Debug>(
     proved: T,
     reference: T,
 ) -> Result<(), Difference> {
+    same_as(what, proved, reference, |answer| format!("{answer:?}"))
+}
+
+/// The same, with the text of an answer.
+fn same_as<T: PartialEq>(
+    what: impl Display,
+    proved: T,
+    reference: T,
+    text: impl Fn(&T) -> String,
+) -> Result<(), Difference> {
     if proved == reference {
         return Ok(());
     }
     Err(Difference {
         what: what.to_string(),
-        proved: format!("{proved:?}"),
-        reference: format!("{reference:?}"),
+        proved: text(&proved),
+        reference: text(&reference),
     })
 }
 

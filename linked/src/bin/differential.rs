@@ -1,6 +1,7 @@
 //! differential [--no-long] [COUNT [SEED]]: gives COUNT inputs, and the long ones, to the proved
 //! library and to the reference implementation, and compares the answers. It prints how many of
-//! each kind were compared and what they were answered, or the first difference.
+//! each kind were compared and what they were answered, or the first difference. Where a side
+//! panics, it says at which input.
 //!
 //! differential --only NUMBER SEED: the input of this number alone, shown whole.
 
@@ -74,11 +75,14 @@ fn run(long: Vec<Long>, count: u64, seed: u64) -> ExitCode {
     let run = Run {
         items: long.len() as u64 + count,
         long,
+        seed,
         inputs: Inputs::new(seed),
         next: AtomicU64::new(0),
         first: AtomicU64::new(u64::MAX),
     };
-    let results = run.on_threads();
+    let Some(results) = run.on_threads() else {
+        return ExitCode::FAILURE;
+    };
     let mut tallies = Tallies::default();
     let mut found = Vec::new();
     for (part, difference) in results {
@@ -111,10 +115,11 @@ fn print_answers(difference: &Difference) {
 /// The inputs of one run, taken by several threads: the long ones first.
 struct Run {
     long: Vec<Long>,
+    seed: u64,
     inputs: Inputs,
     items: u64,
     next: AtomicU64,
-    /// The first item known to be answered differently.
+    /// The first item known to be answered differently, or with a panic.
     first: AtomicU64,
 }
 
@@ -126,13 +131,31 @@ struct Found {
     difference: Difference,
 }
 
+/// An item that is being compared. Where a panic ends that, it says which one it was, and the other
+/// threads take no more.
+struct Current<'a> {
+    run: &'a Run,
+    item: u64,
+}
+
+impl Drop for Current<'_> {
+    fn drop(&mut self) {
+        if thread::panicking() {
+            let Current { run, item } = *self;
+            eprintln!("panic at {}, seed {}", run.title(item), run.seed);
+            run.first.fetch_min(item, Ordering::Relaxed);
+        }
+    }
+}
+
 impl Run {
-    fn on_threads(&self) -> Vec<(Tallies, Option<Found>)> {
+    /// What each thread found, or nothing where one panicked.
+    fn on_threads(&self) -> Option<Vec<(Tallies, Option<Found>)>> {
         let count = thread::available_parallelism().map_or(1, usize::from);
         thread::scope(|scope| {
             let threads: Vec<_> = (0..count).map(|_| scope.spawn(|| self.work())).collect();
-            let results = threads.into_iter().map(|thread| thread.join());
-            results.map(|result| result.expect("no panic")).collect()
+            let results: Vec<_> = threads.into_iter().map(|thread| thread.join()).collect();
+            results.into_iter().map(Result::ok).collect()
         })
     }
 
@@ -171,7 +194,8 @@ impl Run {
     }
 
     fn difference(&self, item: u64, tallies: &mut Tallies) -> Option<Found> {
-        let (kind, title, input) = self.input(item);
+        let _current = Current { run: self, item };
+        let (kind, input) = self.input(item);
         match compare(&input) {
             Ok(labels) => {
                 tallies.count(kind, &labels);
@@ -179,23 +203,32 @@ impl Run {
             }
             Err(difference) => Some(Found {
                 item,
-                title: format!("{kind}, {title}"),
+                title: format!("{kind}, {}", self.title(item)),
                 shown: input.shown(SHOWN),
                 difference,
             }),
         }
     }
 
-    fn input(&self, item: u64) -> (&'static str, String, Input) {
-        let long = self.long.len() as u64;
-        match item.checked_sub(long) {
-            Some(number) => {
-                let (kind, input) = self.inputs.input(number);
-                (kind, format!("input {number}"), input)
-            }
+    /// The number of an input that is none of the long ones.
+    fn number(&self, item: u64) -> Option<u64> {
+        item.checked_sub(self.long.len() as u64)
+    }
+
+    fn title(&self, item: u64) -> String {
+        match self.number(item) {
+            Some(number) => format!("input {number}"),
+            None => self.long[item as usize].name.to_string(),
+        }
+    }
+
+    /// The name of the input's kind, and the input.
+    fn input(&self, item: u64) -> (&'static str, Input) {
+        match self.number(item) {
+            Some(number) => self.inputs.input(number),
             None => {
-                let Long { kind, name, make } = &self.long[item as usize];
-                (kind, (*name).to_string(), make())
+                let Long { kind, make, .. } = &self.long[item as usize];
+                (kind, make())
             }
         }
     }

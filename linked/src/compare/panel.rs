@@ -1,6 +1,6 @@
 //! Scripts of calls on the panel.
 
-use super::{Difference, Label};
+use super::{same_as, Difference, Label};
 use crate::{answer_at, look_after, Answered};
 use reference::panel::{Answer, Call, History};
 use reference::script::decode;
@@ -19,39 +19,18 @@ pub fn compare_script(
     let at_places = places.iter().map(|&place| {
         let proved = answer_at(&script.bytes, place);
         let reference = answers.get(place).copied().unwrap_or(NO_CALL);
-        same(
-            || format!("the answer at place {place}"),
-            &proved,
-            &reference,
-        )
+        let what = format_args!("the answer at place {place}");
+        same_as(what, proved, reference, text).map(|()| label(&reference))
     });
     let looks = tiles.iter().map(|&tile| {
         let clock = script.clock;
         let proved = look_after(&script.bytes, tile, clock);
         let tile = tile as u64;
         let reference = expected(&history.answer(&Call::Look { tile, clock }));
-        same(
-            || format!("a look at tile {tile} after the script"),
-            &proved,
-            &reference,
-        )
+        let what = format_args!("a look at tile {tile} after the script");
+        same_as(what, proved, reference, text).map(|()| label(&reference))
     });
     at_places.chain(looks).collect()
-}
-
-fn same(
-    what: impl Fn() -> String,
-    proved: &Answered,
-    reference: &Answered,
-) -> Result<Label, Difference> {
-    if proved == reference {
-        return Ok(label(reference));
-    }
-    Err(Difference {
-        what: what(),
-        proved: text(proved),
-        reference: text(reference),
-    })
 }
 
 /// What the answers are called, by the numbers that the proved library gives them.

@@ -2,6 +2,8 @@
 //! the same inputs. Both sides must give equal answers before they are timed. `scripts/bench`
 //! builds and runs it.
 
+#![forbid(unsafe_code)]
+
 mod baseline;
 mod inputs;
 mod panel;
