@@ -117,7 +117,7 @@ pub fn print_short(kind: u8, out: &[u8], given: &[u8]) {
     print_out(kind, given, &mut buffer[..n]);
 }
 
-fn print_sum(given: &[u8], out: &mut [u8]) {
+fn print_out_crc(given: &[u8], out: &mut [u8]) {
     print_written(write_zeros(given, &mut *out));
     print_crc(crc64::crc64(out));
 }
@@ -125,5 +125,5 @@ fn print_sum(given: &[u8], out: &mut [u8]) {
 pub fn print_long(out: &[u8], given: &[u8]) {
     let mut buffer = vector_records::buffer(be8(out, 4));
     let n = io::count(be32(out, 0) as isize, &buffer);
-    print_sum(given, &mut buffer[..n]);
+    print_out_crc(given, &mut buffer[..n]);
 }

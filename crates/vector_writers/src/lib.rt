@@ -189,7 +189,7 @@ fn write_long(kind: u8, given: &[u8], out: &mut [u8]) -> Written {
     }
 }
 
-fn print_sum(kind: u8, given: &[u8], out: &mut [u8]) {
+fn print_out_crc(kind: u8, given: &[u8], out: &mut [u8]) {
     print_written(write_long(kind, given, &mut *out));
     print_crc(crc64::crc64(out));
 }
@@ -197,5 +197,5 @@ fn print_sum(kind: u8, given: &[u8], out: &mut [u8]) {
 pub fn print_long(kind: u8, out: &[u8], given: &[u8]) {
     let mut buffer = vector_records::buffer(be8(out, 4));
     let n = io::count(be32(out, 0) as isize, &buffer);
-    print_sum(kind, given, &mut buffer[..n]);
+    print_out_crc(kind, given, &mut buffer[..n]);
 }

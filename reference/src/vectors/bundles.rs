@@ -86,7 +86,7 @@ pub fn sound() -> Vec<Vec<u8>> {
     ]
 }
 
-/// A content field by field, so that each can be made to lie.
+/// A content field by field, so that each can be made wrong.
 #[derive(Clone)]
 struct Fields {
     count: u16,
@@ -128,7 +128,7 @@ impl Fields {
 }
 
 /// The mixed content after some changes of its fields.
-fn lies<const N: usize>(changes: [fn(&mut Fields); N]) -> Vec<Vec<u8>> {
+fn with_changes<const N: usize>(changes: [fn(&mut Fields); N]) -> Vec<Vec<u8>> {
     let contents = changes.map(|change| {
         let mut fields = Fields::mixed();
         change(&mut fields);
@@ -150,7 +150,7 @@ fn counts() -> Vec<Vec<u8>> {
         vec![0, 1, 0, 0],
         vec![255; 4],
     ];
-    let changed = lies([
+    let changed = with_changes([
         |fields| fields.count = 0,
         |fields| fields.count = 3,
         |fields| fields.count = 5,
@@ -161,7 +161,7 @@ fn counts() -> Vec<Vec<u8>> {
 }
 
 fn types() -> Vec<Vec<u8>> {
-    lies([
+    with_changes([
         |fields| fields.types[0][11] = 1,
         |fields| fields.types[0][7] = b'X',
         |fields| fields.types[0][0] = 0,
@@ -200,7 +200,7 @@ fn tables() -> Vec<Vec<u8>> {
         |fields| fields.table_size = 0,
         |fields| fields.table_size = 65_535,
     ];
-    [lies(shorter), lies(others), single_tables()].concat()
+    [with_changes(shorter), with_changes(others), single_tables()].concat()
 }
 
 fn set_table(fields: &mut Fields, table: &[u8]) {
@@ -234,7 +234,7 @@ fn csizes() -> Vec<Vec<u8>> {
             fields.bytes()
         })
     });
-    let far = lies([
+    let far = with_changes([
         |fields| fields.sizes[0] = u64::MAX,
         |fields| fields.sizes[0] = u64::MAX - 1,
         |fields| fields.sizes[3] = u64::MAX,
@@ -256,7 +256,7 @@ fn csizes() -> Vec<Vec<u8>> {
 
 /// Pads that are not 0, that are missing, and bytes after the last one.
 fn pads() -> Vec<Vec<u8>> {
-    let changed = lies([
+    let changed = with_changes([
         |fields| fields.table[9] = 1,
         |fields| fields.table[9] = 128,
         |fields| fields.data[0][3] = 1,

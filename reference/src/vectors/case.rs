@@ -44,7 +44,7 @@ impl Case {
     }
 
     /// One more word of the line: the CRC of bytes that are too many for it.
-    pub fn checksum(self, bytes: &[u8]) -> Self {
+    pub fn crc_of(self, bytes: &[u8]) -> Self {
         self.bytes(&crc(bytes).to_be_bytes())
     }
 

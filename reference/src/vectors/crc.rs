@@ -10,7 +10,7 @@ pub fn cases() -> Vec<Case> {
 }
 
 fn crc_case(body: &[u8]) -> Case {
-    Case::of_kind('K').given(body).checksum(body)
+    Case::of_kind('K').given(body).crc_of(body)
 }
 
 fn bodies() -> Vec<Vec<u8>> {

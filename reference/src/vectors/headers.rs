@@ -2,7 +2,7 @@
 
 use super::case::Case;
 use super::out::{answered, rooms, Out};
-use super::samples::{lies, set, Sample};
+use super::samples::{set, with_changes, Sample};
 use super::writers::TYPES;
 use crate::fault::number;
 use crate::message::header::{Header, LENGTH};
@@ -81,7 +81,7 @@ fn read_headers(random: &mut Random) -> Vec<Case> {
 /// Texts that fill their fields, are empty, go on after a 0, or have a byte that is none.
 pub fn texts() -> Vec<Vec<u8>> {
     let sample = Sample::plain(b"STATUS", b"");
-    lies(
+    with_changes(
         &sample,
         [
             |fields| fields.type_field = [0; 12],

@@ -2,7 +2,7 @@
 
 use super::bundles;
 use super::case::Case;
-use super::out::{answered, rooms, summed, Out};
+use super::out::{answered, answered_with_crc, rooms, Out};
 use super::samples::Sample;
 use super::{headers, messages, metadata, trees};
 use crate::random::Random;
@@ -254,7 +254,7 @@ fn zeros_case((version, type_text, lengths): Zeros, room: usize) -> Case {
     let lengths = lengths.map(u32::to_be_bytes);
     let case = begun(&sample, out, 'W');
     let case = lengths.iter().fold(case, |case, length| case.given(length));
-    summed(case, out.after(|out| write_message(&sample.message(), out)))
+    answered_with_crc(case, out.after(|out| write_message(&sample.message(), out)))
 }
 
 #[cfg(test)]

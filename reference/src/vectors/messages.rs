@@ -3,7 +3,7 @@
 use super::bundles::{self, EMPTY};
 use super::case::Case;
 use super::patched::Patched;
-use super::samples::{lies, mended, set, Fields, Sample};
+use super::samples::{mended, set, with_changes, Fields, Sample};
 use super::{headers, images, metadata, streams, trees};
 use crate::fault::number;
 use crate::message::{read, Message};
@@ -52,7 +52,7 @@ fn message_case(stream: &[u8]) -> Case {
         .bytes(device_name)
         .bytes(body.further)
         .bytes(body.metadata)
-        .checksum(body.content)
+        .crc_of(body.content)
 }
 
 /// A stream too long for a record.
@@ -136,7 +136,7 @@ fn extended_headers() -> Vec<Vec<u8>> {
         metadata.metadata_size = size;
         [extended, metadata].map(|fields| fields.bytes())
     };
-    let changed = lies(
+    let changed = with_changes(
         &Sample::extended(),
         [
             |fields| (fields.extended_size, fields.metadata_size) = (65_535, 13),
@@ -165,7 +165,7 @@ fn extended_headers() -> Vec<Vec<u8>> {
 
 /// Two faults or more: the first in the reader's order counts.
 fn orders() -> Vec<Vec<u8>> {
-    lies(
+    with_changes(
         &Sample::extended(),
         [
             |fields| (fields.version, fields.crc) = (3, Some(0)),

@@ -97,7 +97,7 @@ fn sound() -> Vec<Vec<u8>> {
     ]
 }
 
-/// A section field by field, so that each can be made to lie.
+/// A section field by field, so that each can be made wrong.
 #[derive(Clone)]
 struct Fields {
     count: u16,
@@ -136,11 +136,11 @@ impl Fields {
 }
 
 /// The mixed section after some changes of its fields.
-fn lies<const N: usize>(changes: [fn(&mut Fields); N]) -> Vec<Vec<u8>> {
-    changes.iter().map(lie).collect()
+fn with_changes<const N: usize>(changes: [fn(&mut Fields); N]) -> Vec<Vec<u8>> {
+    changes.iter().map(with_change).collect()
 }
 
-fn lie(change: impl FnOnce(&mut Fields)) -> Vec<u8> {
+fn with_change(change: impl FnOnce(&mut Fields)) -> Vec<u8> {
     let mut fields = Fields::mixed();
     change(&mut fields);
     fields.bytes()
@@ -160,17 +160,17 @@ fn counts() -> Vec<Vec<u8>> {
         [&[0, 1][..], &[0; 8]].concat(),
     ];
     let counts = [0, 1, 2, 3, 5, 6, 0x0400, 0x8004, 65_535];
-    let changed = counts.map(|count| lie(|fields| fields.count = count));
+    let changed = counts.map(|count| with_change(|fields| fields.count = count));
     whole.into_iter().chain(changed).collect()
 }
 
 fn key_sizes() -> Vec<Vec<u8>> {
     let sizes = (0..4).flat_map(|place| {
         let sizes = [0, 1, 2, 3, 4, 20, 0x0101, 0x8001, 65_535];
-        sizes.map(|size| lie(|fields| fields.key_sizes[place] = size))
+        sizes.map(|size| with_change(|fields| fields.key_sizes[place] = size))
     });
     // A byte more for the key and one less for the value, or the other way.
-    let shifted = lies([
+    let shifted = with_changes([
         |fields| (fields.key_sizes[0], fields.value_sizes[0]) = (3, 2),
         |fields| (fields.key_sizes[0], fields.value_sizes[0]) = (1, 4),
         |fields| (fields.key_sizes[0], fields.value_sizes[0]) = (0, 5),
@@ -189,13 +189,13 @@ fn value_sizes() -> Vec<Vec<u8>> {
     let close = (0..4).flat_map(|place| {
         let changes = [-2, -1, 1, 2, i32::MAX, i32::MIN];
         changes.map(|change| {
-            lie(|fields| {
+            with_change(|fields| {
                 let size = &mut fields.value_sizes[place];
                 *size = size.wrapping_add_signed(change);
             })
         })
     });
-    let far = lies([
+    let far = with_changes([
         |fields| fields.value_sizes[0] = u32::MAX,
         |fields| fields.value_sizes[0] = u32::MAX - 1,
         |fields| fields.value_sizes[0] = u32::MAX - 4,
@@ -221,9 +221,9 @@ fn data() -> Vec<Vec<u8>> {
     let places = 0..Fields::mixed().data.len();
     let bytes = places.flat_map(|place| {
         let values = [0, 1, 127, 128, 255];
-        values.map(|value| lie(|fields| fields.data[place] = value))
+        values.map(|value| with_change(|fields| fields.data[place] = value))
     });
-    let lengths = lies([
+    let lengths = with_changes([
         |fields| fields.data.push(0),
         |fields| fields.data.push(b'A'),
         |fields| fields.data.extend([0; 2]),

@@ -44,8 +44,8 @@ pub fn answered(case: Case, (written, out): (Written, Vec<u8>)) -> Case {
 }
 
 /// The answer, and the CRC of the buffer, which is too long for a line.
-pub fn summed(case: Case, (written, out): (Written, Vec<u8>)) -> Case {
+pub fn answered_with_crc(case: Case, (written, out): (Written, Vec<u8>)) -> Case {
     case.number(number(&written))
         .number(written.unwrap_or(0))
-        .checksum(&out)
+        .crc_of(&out)
 }

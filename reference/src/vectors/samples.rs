@@ -1,4 +1,4 @@
-//! Sample messages: sound ones, ones by chance, and ones of which a field lies.
+//! Sample messages: sound ones, ones by chance, and ones of which a field is wrong.
 
 use super::{metadata, trees};
 use crate::crc::crc;
@@ -94,7 +94,7 @@ impl Sample {
     }
 }
 
-/// The fields of a message as sent, so that each can be made to lie.
+/// The fields of a message as sent, so that each can be made wrong.
 #[derive(Clone)]
 pub struct Fields {
     pub version: u16,
@@ -163,7 +163,10 @@ impl Fields {
 }
 
 /// The sample after each of some changes of its fields.
-pub fn lies<const N: usize>(sample: &Sample, changes: [fn(&mut Fields); N]) -> Vec<Vec<u8>> {
+pub fn with_changes<const N: usize>(
+    sample: &Sample,
+    changes: [fn(&mut Fields); N],
+) -> Vec<Vec<u8>> {
     let streams = changes.map(|change| {
         let mut fields = Fields::of(sample);
         change(&mut fields);

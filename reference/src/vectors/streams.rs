@@ -1,7 +1,7 @@
 //! Cases of streams: the answers from message to message, and the sample of the listing.
 
 use super::case::Case;
-use super::samples::{lies, Fields, Sample};
+use super::samples::{with_changes, Fields, Sample};
 use super::{bundles, trees};
 use crate::listing::{lines, Line};
 use crate::random::Random;
@@ -74,7 +74,7 @@ fn short_streams() -> Vec<Vec<u8>> {
 
 /// A message for each number of the reader, from 2 on; those of 4 and above step.
 pub fn refused() -> Vec<Vec<u8>> {
-    let mut streams = lies(
+    let mut streams = with_changes(
         &Sample::extended(),
         [
             |fields| fields.name_field[19] = 1,

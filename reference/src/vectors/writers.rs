@@ -3,7 +3,7 @@
 use super::bundles::{faulty, faulty_pairs, nest, part, EMPTY};
 use super::case::{field, Case};
 use super::contents::ODD_WORDS;
-use super::out::{answered, rooms, summed, Out};
+use super::out::{answered, answered_with_crc, rooms, Out};
 use super::{images, trees};
 use crate::content::bind::Part;
 use crate::content::image::Header;
@@ -276,7 +276,7 @@ fn long_names() -> Vec<Case> {
         [65_557, 65_558, 65_559].map(|room| {
             let out = Out::new(room);
             let case = out.case('n').given(&length.to_be_bytes());
-            summed(case, out.after(|out| lists.write(out)))
+            answered_with_crc(case, out.after(|out| lists.write(out)))
         })
     });
     cases.collect()
@@ -299,7 +299,7 @@ fn many_children() -> Vec<Case> {
         let count = u32::try_from(count).expect("a count fits four bytes");
         let out = Out::new(room);
         let case = out.case('m').given(&count.to_be_bytes());
-        summed(case, out.after(|out| lists.write(out)))
+        answered_with_crc(case, out.after(|out| lists.write(out)))
     });
     cases.to_vec()
 }

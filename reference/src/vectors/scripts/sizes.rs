@@ -44,7 +44,7 @@ fn wrong_sizes() -> Vec<Vec<u8>> {
 }
 
 /// A message of which BODY_SIZE says this, the CRC being that of as many bytes as are there.
-fn lie(sample: &Sample, size: u64) -> Vec<u8> {
+fn with_size(sample: &Sample, size: u64) -> Vec<u8> {
     let body = &sample.bytes()[58..];
     let length = usize::try_from(size).unwrap_or(usize::MAX);
     let mut fields = Fields::of(sample);
@@ -64,7 +64,7 @@ fn position() -> Sample {
 /// More than is there, up to the limit.
 fn larger_sizes() -> Vec<Vec<u8>> {
     let sizes = [49, 50, 48 + 256, 48 + 65_536, 16_777_216];
-    sizes.map(|size| lie(&transform(), size)).to_vec()
+    sizes.map(|size| with_size(&transform(), size)).to_vec()
 }
 
 /// Above the limit; in fewer bits some are the true one, and some together with the header's 58
@@ -78,14 +78,14 @@ fn huge_sizes() -> Vec<Vec<u8>> {
         u64::MAX - 57,
         u64::MAX - 9,
     ];
-    sizes.map(|size| lie(&transform(), size)).to_vec()
+    sizes.map(|size| with_size(&transform(), size)).to_vec()
 }
 
 /// Fewer than are there: the content has another length, or is a shorter POSITION and bytes are
 /// left over; the CRC is wrong; the size is that of the content without the sections around it.
 fn smaller_sizes() -> Vec<Vec<u8>> {
-    let transforms = [0, 1, 24, 47].map(|size| lie(&transform(), size));
-    let positions = [0, 12, 24, 27].map(|size| lie(&position(), size));
+    let transforms = [0, 1, 24, 47].map(|size| with_size(&transform(), size));
+    let positions = [0, 12, 24, 27].map(|size| with_size(&position(), size));
     let mut of_another = Fields::of(&transform());
     of_another.body_size = Some(47);
     let extended = Sample {
@@ -93,7 +93,7 @@ fn smaller_sizes() -> Vec<Vec<u8>> {
         content: vec![8; 48],
         ..Sample::extended()
     };
-    let rest = [of_another.bytes(), lie(&extended, 48)];
+    let rest = [of_another.bytes(), with_size(&extended, 48)];
     transforms
         .into_iter()
         .chain(positions)
