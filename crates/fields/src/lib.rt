@@ -6,7 +6,7 @@ pub mod store;
 pub mod text;
 
 ghost use mathlib.Core.Path.{_≡_};
-ghost use Rattle.fields.specs.Answer.{writtenNumber, writtenCount, writtenOf, roomFault};
+ghost use Rattle.fields.specs.Answer.{writtenNumber, writtenCount, roomFault};
 
 // The answer of a writer: how many bytes it wrote, or document 01's number of the refusal.
 pub enum Written {
@@ -34,16 +34,6 @@ impl Written {
             Written::Refused(_) => 0,
         }
     }
-}
-
-// The answer of a writer that found this fault, or none, and otherwise writes n bytes.
-pub fn answer(fault: u8, n: usize) -> Written
-    ensures { λ r. ⌜ r ≡ writtenOf fault n ⌝ }
-{
-    if fault == 0 {
-        return Written::Wrote(n);
-    }
-    Written::Refused(fault)
 }
 
 // 20 where a buffer of this length is too short for n bytes.
