@@ -60,9 +60,11 @@ pub record Lookups : Type 0 where
   pub named-or-none : (x : List ℕ) (cs : List Child) → ((n : ℕ) × (c : Child) × FirstNamed x n c cs) ⊎ NoneNamed x cs
   -- a refused content refuses every look-up, by its number
   pub refused : (s : List ℕ) (n : ℕ) → (bindFault deepest s ≡ 0 → ⊥) → placeOf s n ≡ record { number = bindFault deepest s; at = 0; len = 0 }
+  pub refused-named : (s x : List ℕ) → (bindFault deepest s ≡ 0 → ⊥) → namedPlace s x ≡ record { number = bindFault deepest s; at = 0; len = 0 }
   pub refused-count : (s : List ℕ) → (bindFault deepest s ≡ 0 → ⊥) → countOf s ≡ record { number = bindFault deepest s; count = 0 }
   -- a refused look-up hands back an empty part
   pub empty : (s : List ℕ) (n : ℕ) → (placeOf s n .number ≡ 0 → ⊥) → (partAt (placeOf s n) s ≡ []) × (typeAt s n ≡ []) × (nameAt s n ≡ [])
+  pub empty-named : (s x : List ℕ) → (namedPlace s x .number ≡ 0 → ⊥) → partAt (namedPlace s x) s ≡ []
 
 -- of two bundles, by cases on both
 pub record EitherLookups : Type 0 where

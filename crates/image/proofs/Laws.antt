@@ -188,6 +188,10 @@ number-refused c h = go (leb 72 (length c)) (headerOk (headerOf c) (length c - 7
     go true u n = cond-refused u _ n
     go false u n = refl
 
+answered : (c : List ℕ) → imageOf c .number ≡ imageFault c
+unfolding imageOf
+answered c = refl
+
 -- ---- the laws, as they are stated
 
 pub images : Images
@@ -197,6 +201,7 @@ images =
       refused = λ c b n. number-refused c (λ z. n (image-accepted c b z));
       well = image-well;
       unique = image-unique;
+      answered = answered;
       header-read = λ x w. read-encoded x (w .fits) (image-well x w);
       pixels-read = λ x w. pixels-encoded x (image-well x w);
       answered-back = λ c out h k.
@@ -205,6 +210,7 @@ images =
           after-wrote (imageOf c .header) (pixelsOf c) out (write-read c out h k)
           ∙ ap₂ (λ (s : List ℕ) (n : ℕ). s ++ drop n out) (encode-read c b h) (length-read c h);
       number = write-number;
+      untouched = λ h p out k. after-refused h p out (λ z. k (number-fault h p out ∙ z));
       header-back = λ h p out f e.
           ap imageOf (taken h p out (taken-accepted h p out f e .0)) ∙ read-encoded (imageOfParts h p) f (taken-accepted h p out f e .1);
       pixels-back = λ h p out f e.

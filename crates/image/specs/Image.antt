@@ -220,6 +220,8 @@ pub record Images : Type 0 where
   pub refused : (c : List ℕ) → Bytes c → (IsImage c → ⊥) → imageFault c ≡ 9
   pub well : (x : Image) → WellImage x → imageFault (encodeImage x) ≡ 0
   pub unique : (x y : Image) → WellImage x → WellImage y → encodeImage x ≡ encodeImage y → x ≡ y
+  -- the reader's answer carries the check's number, for any bytes
+  pub answered : (c : List ℕ) → imageOf c .number ≡ imageFault c
   -- the reader hands out that image
   pub header-read : (x : Image) → WellImage x → imageOf (encodeImage x) ≡ record { number = 0; header = x .header }
   pub pixels-read : (x : Image) → WellImage x → pixelsOf (encodeImage x) ≡ x .pixels
@@ -230,6 +232,8 @@ pub record Images : Type 0 where
   -- the writer's number is the reader's for the bytes that it would write, then 20
   pub number : (h : ImageHeader) (p out : List ℕ) → HeaderFits h
       → writtenNumber (imageWritten h p out) ≡ orElse (imageFault (encodeImage (imageOfParts h p))) (roomFault (72 + length p) (length out))
+  -- a refusal leaves the buffer as it was
+  pub untouched : (h : ImageHeader) (p out : List ℕ) → (writtenNumber (imageWritten h p out) ≡ 0 → ⊥) → imageAfter h p out ≡ out
   -- what it wrote reads back as given
   pub header-back : (h : ImageHeader) (p out : List ℕ) → HeaderFits h → writtenNumber (imageWritten h p out) ≡ 0
       → imageOf (take (72 + length p) (imageAfter h p out)) ≡ record { number = 0; header = h }

@@ -17,7 +17,7 @@ use Rattle.fields.specs.Answer.{writtenNumber, roomFault}
 use Rattle.fields.proofs.Laws.Checks.{else-zero, cond-faulty}
 use Rattle.fields.proofs.Laws.Numbers.{beAt-past}
 use Rattle.fields.proofs.Laws.Tests.{cond-cases}
-use Rattle.fields.proofs.Laws.Answer.{written-wrote, written-number, out-wrote, room-enough}
+use Rattle.fields.proofs.Laws.Answer.{written-wrote, written-number, out-wrote, out-refused, room-enough}
 use Rattle.pose.specs.declared.PositionRead.{PositionRead}
 use Rattle.pose.specs.Words.{wordBytes}
 use Rattle.pose.specs.Position.{PositionCount, three, six, seven, WellPosition, IsPosition, wordsIn, positionFault, positionAt, positionOf, positionWords, countFault, positionChecks, positionWritten, positionOut, Positions}
@@ -39,6 +39,13 @@ behind k c seven e = refl
 
 words-of : (c : List ℕ) → positionFault c ≡ 0 → positionWords (positionOf c) ≡ numbersAt 0 (replicate (wordsIn (length c)) 4) c
 words-of c h = ap positionWords (position-read c h) ∙ front (wordsIn (length c)) c (position-count c h .1)
+
+answered : (c : List ℕ) → positionOf c .number ≡ positionFault c
+unfolding positionOf
+answered c =
+    cond-cases (λ (r : PositionRead). r .number ≡ positionFault c) (eqb (positionFault c) 0) _ _
+    (λ e. sym (eqb-true (positionFault c) 0 e))
+    (λ e. refl)
 
 read : (ws : List ℕ) → WellPosition ws → positionWords (positionOf (wordBytes ws)) ≡ ws
 read ws h =
@@ -101,6 +108,11 @@ number ws room =
     written-number (positionChecks ws room) (4 * length ws)
     ∙ ap₂ (λ (k n : ℕ). orElse k (roomFault n room)) (count-fault ws) (sym (length-wordBytes ws))
 
+untouched : (ws out : List ℕ) → (writtenNumber (positionWritten ws (length out)) ≡ 0 → ⊥) → positionOut ws out ≡ out
+unfolding positionWritten positionOut
+untouched ws out h =
+    out-refused (positionChecks ws (length out)) (wordBytes ws) out (λ z. h (written-number (positionChecks ws (length out)) (4 * length ws) ∙ z))
+
 pub positions : Positions
 positions =
     record {
@@ -108,6 +120,7 @@ positions =
       refused = refused;
       well = position-well;
       unique = λ ws vs h k e. words-unique ws vs (h .words) (k .words) e;
+      answered = answered;
       read = read;
       handed = handed;
       zeros = zeros;
@@ -117,4 +130,5 @@ positions =
         ap (λ (c : List ℕ). positionWords (positionOf c)) (written ws out h k) ∙ read ws h,
       );
       number = number;
+      untouched = untouched;
     }

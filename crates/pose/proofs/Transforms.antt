@@ -6,18 +6,27 @@ use native.Mathlib.Omega.{arith}
 use lib.Dec.{eqb}
 use lib.ListN.{length, take, drop, getD, length-append}
 use lib.Seq.{take-at}
+use borrow.Author.Tests.{eqb-true}
 use Rattle.fields.specs.Bytes.{Bytes, part}
 use Rattle.fields.specs.Layout.{join, cut}
 use Rattle.fields.proofs.Laws.Layout.{cut-join}
 use Rattle.fields.specs.Checks.{orElse}
 use Rattle.fields.specs.Answer.{writtenNumber, roomFault}
 use Rattle.fields.proofs.Laws.Checks.{else-second, cond-refused}
-use Rattle.fields.proofs.Laws.Answer.{written-wrote, written-number, out-wrote, room-enough}
+use Rattle.fields.proofs.Laws.Tests.{cond-cases}
+use Rattle.fields.proofs.Laws.Answer.{written-wrote, written-number, out-wrote, out-refused, room-enough}
 use Rattle.pose.specs.declared.Transform.{Transform}
 use Rattle.pose.specs.declared.TransformRead.{TransformRead}
 use Rattle.pose.specs.Words.{wordBytes}
 use Rattle.pose.specs.Transform.{WellTransform, IsTransform, transformFault, transformAt, transformOf, transformWords, transformWritten, transformOut, Columns, Transforms}
 use Rattle.pose.proofs.Laws.{length-wordBytes, words-read, words-back, words-unique, words-append, transform-length, transform-accepted, transform-well, transform-read}
+
+answered : (c : List ℕ) → transformOf c .number ≡ transformFault c
+unfolding transformOf
+answered c =
+    cond-cases (λ (r : TransformRead). r .number ≡ transformFault c) (eqb (transformFault c) 0) _ _
+    (λ e. sym (eqb-true (transformFault c) 0 e))
+    (λ e. refl)
 
 read : (ws : List ℕ) → WellTransform ws → transformWords (transformOf (wordBytes ws) .transform) ≡ ws
 read ws h =
@@ -103,6 +112,10 @@ number : (t : Transform) (room : ℕ) → Columns t
 unfolding transformWritten
 number t room h = written-number _ _ ∙ sym (else-second _ _ (transform-well (transformWords t) (well-columns t h)))
 
+untouched : (t : Transform) (out : List ℕ) → (writtenNumber (transformWritten (length out)) ≡ 0 → ⊥) → transformOut t out ≡ out
+unfolding transformWritten transformOut
+untouched t out h = out-refused _ _ out (λ z. h (written-number _ _ ∙ z))
+
 pub transforms : Transforms
 unfolding transformWritten
 transforms =
@@ -111,9 +124,11 @@ transforms =
       refused = refused;
       well = transform-well;
       unique = λ ws vs h k e. words-unique ws vs (h .words) (k .words) e;
+      answered = answered;
       read = read;
       handed = handed;
       written-back = λ c out b h k. (written-wrote _ _ (room-enough _ (length out) k), written-back c out b h k);
       read-back = read-back;
       number = number;
+      untouched = untouched;
     }

@@ -83,6 +83,8 @@ pub record Positions : Type 0 where
   pub refused : (c : List ℕ) → Bytes c → (IsPosition c → ⊥) → positionFault c ≡ 8
   pub well : (ws : List ℕ) → WellPosition ws → positionFault (wordBytes ws) ≡ 0
   pub unique : (ws vs : List ℕ) → WellPosition ws → WellPosition vs → wordBytes ws ≡ wordBytes vs → ws ≡ vs
+  -- the reader's answer carries the check's number, for any bytes
+  pub answered : (c : List ℕ) → positionOf c .number ≡ positionFault c
   -- the reader hands out those words, and zeros past them
   pub read : (ws : List ℕ) → WellPosition ws → positionWords (positionOf (wordBytes ws)) ≡ ws
   pub handed : (c : List ℕ) → Bytes c → positionFault c ≡ 0 → wordBytes (positionWords (positionOf c)) ≡ c
@@ -98,3 +100,5 @@ pub record Positions : Type 0 where
   -- the writer's number is the reader's for the bytes that it would write, then 20
   pub number : (ws : List ℕ) (room : ℕ)
       → writtenNumber (positionWritten ws room) ≡ orElse (positionFault (wordBytes ws)) (roomFault (length (wordBytes ws)) room)
+  -- a refusal leaves the buffer as it was
+  pub untouched : (ws out : List ℕ) → (writtenNumber (positionWritten ws (length out)) ≡ 0 → ⊥) → positionOut ws out ≡ out

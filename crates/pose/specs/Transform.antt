@@ -80,6 +80,8 @@ pub record Transforms : Type 0 where
   pub refused : (c : List ℕ) → Bytes c → (IsTransform c → ⊥) → transformFault c ≡ 8
   pub well : (ws : List ℕ) → WellTransform ws → transformFault (wordBytes ws) ≡ 0
   pub unique : (ws vs : List ℕ) → WellTransform ws → WellTransform vs → wordBytes ws ≡ wordBytes vs → ws ≡ vs
+  -- the reader's answer carries the check's number, for any bytes
+  pub answered : (c : List ℕ) → transformOf c .number ≡ transformFault c
   -- the reader hands out those words
   pub read : (ws : List ℕ) → WellTransform ws → transformWords (transformOf (wordBytes ws) .transform) ≡ ws
   pub handed : (c : List ℕ) → Bytes c → transformFault c ≡ 0 → wordBytes (transformWords (transformOf c .transform)) ≡ c
@@ -92,3 +94,5 @@ pub record Transforms : Type 0 where
   -- the writer's number is the reader's for the bytes that it would write, then 20
   pub number : (t : Transform) (room : ℕ) → Columns t
       → writtenNumber (transformWritten room) ≡ orElse (transformFault (wordBytes (transformWords t))) (roomFault 48 room)
+  -- a refusal leaves the buffer as it was
+  pub untouched : (t : Transform) (out : List ℕ) → (writtenNumber (transformWritten (length out)) ≡ 0 → ⊥) → transformOut t out ≡ out

@@ -221,6 +221,8 @@ lookups =
       unnamed = λ s cs x h f. ap (placeOf s) (index-unnamed s cs h x f) ∙ place-past s cs h (length cs) (omega arith);
       named-or-none = named-or-none;
       refused = λ s n h. place-refused (bindFault deepest s) s n h;
+      refused-named = λ s x h. place-refused (bindFault deepest s) s (indexOf s x) h;
       refused-count = count-refused;
       empty = empty-parts;
+      empty-named = λ s x h. empty-parts s (indexOf s x) h .0;
     }
