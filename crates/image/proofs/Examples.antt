@@ -9,6 +9,8 @@ pub examples : Examples
 unfolding beVal beBytes writtenOf roomFault outAfter encodeImage scalarSize kindOk within directionOk directionsOk pixelBytes headerOk ruleFault headerOf imageFault imageOf pixelsOf writeFault imageWritten imageAfter
 examples =
     record {
+      layout = refl;
+      layout-read = refl;
       bytes = refl;
       accepted = refl;
       handed = refl;

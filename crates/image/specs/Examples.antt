@@ -1,7 +1,7 @@
--- P9 of document 01, of the definitions.
+-- The layout of a header, byte by byte, and P9 of document 01, of the definitions.
 use Prim.Native.Nat.{ℕ}
 use mathlib.Core.Path.{_≡_}
-use mathlib.Core.List.{List, [], _∷_}
+use mathlib.Core.List.{List, [], _∷_, _++_}
 use lib.ListN.{length, take, drop, replicate}
 use Rattle.fields.specs.declared.Written.the-variants.{Wrote, Refused}
 use Rattle.image.specs.declared.ImageHeader.{ImageHeader}
@@ -29,7 +29,41 @@ header s ri di dri =
 abbrev pub content : ImageHeader → ℕ → List ℕ
 content h n = encodeImage (imageOfParts h (replicate n 7))
 
+-- every field with a value of its own
+abbrev pub distinct : ImageHeader
+distinct =
+    record {
+      version = 0x0102;
+      components = 3;
+      «scalar_type» = 5;
+      endian = 1;
+      coordinate = 2;
+      size = 0x0A0B ∷ 0x0C0D ∷ 0x0E0F ∷ [];
+      «axis_i» = 0x21222324 ∷ 0x25262728 ∷ 0x292A2B2C ∷ [];
+      «axis_j» = 0x2D2E2F30 ∷ 0x31323334 ∷ 0x35363738 ∷ [];
+      «axis_k» = 0x393A3B3C ∷ 0x3D3E3F40 ∷ 0x41424344 ∷ [];
+      centre = 0x45464748 ∷ 0x494A4B4C ∷ 0x4D4E4F50 ∷ [];
+      offset = 0x0110 ∷ 0x0112 ∷ 0x0114 ∷ [];
+      «sub_size» = 4 ∷ 6 ∷ 7 ∷ [];
+    }
+
+-- its bytes, in document 01's order: V, T, S, E, O; RI RJ RK; the floats T, S, N, P; DI DJ DK; DRI DRJ DRK
+abbrev pub distinctBytes : List ℕ
+distinctBytes =
+    0x01 ∷ 0x02 ∷ 3 ∷ 5 ∷ 1 ∷ 2
+    ∷ 0x0A ∷ 0x0B ∷ 0x0C ∷ 0x0D ∷ 0x0E ∷ 0x0F
+    ∷ 0x21 ∷ 0x22 ∷ 0x23 ∷ 0x24 ∷ 0x25 ∷ 0x26 ∷ 0x27 ∷ 0x28 ∷ 0x29 ∷ 0x2A ∷ 0x2B ∷ 0x2C
+    ∷ 0x2D ∷ 0x2E ∷ 0x2F ∷ 0x30 ∷ 0x31 ∷ 0x32 ∷ 0x33 ∷ 0x34 ∷ 0x35 ∷ 0x36 ∷ 0x37 ∷ 0x38
+    ∷ 0x39 ∷ 0x3A ∷ 0x3B ∷ 0x3C ∷ 0x3D ∷ 0x3E ∷ 0x3F ∷ 0x40 ∷ 0x41 ∷ 0x42 ∷ 0x43 ∷ 0x44
+    ∷ 0x45 ∷ 0x46 ∷ 0x47 ∷ 0x48 ∷ 0x49 ∷ 0x4A ∷ 0x4B ∷ 0x4C ∷ 0x4D ∷ 0x4E ∷ 0x4F ∷ 0x50
+    ∷ 0x01 ∷ 0x10 ∷ 0x01 ∷ 0x12 ∷ 0x01 ∷ 0x14
+    ∷ 0 ∷ 4 ∷ 0 ∷ 6 ∷ 0 ∷ 7
+    ∷ []
+
 pub record Examples : Type 0 where
+  -- the order and the widths of the fields: written, and read before 3 x 2 x (4 x 6 x 7) bytes of pixels
+  pub layout : encodeImage (imageOfParts distinct []) ≡ distinctBytes
+  pub layout-read : imageOf (distinctBytes ++ replicate 1008 7) ≡ record { number = 0; header = distinct }
   -- T 3, S 5, 2 x 2 x 1 pixels: 96 bytes
   pub bytes : length (content (header 5 2 0 2) 24) ≡ 96
   pub accepted : imageFault (content (header 5 2 0 2) 24) ≡ 0

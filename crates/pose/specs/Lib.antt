@@ -3,3 +3,4 @@
 pub mod Words
 pub mod Transform
 pub mod Position
+pub mod Examples
