@@ -18,6 +18,7 @@ examples =
       short = refl;
       no-room = refl;
       position-12 = refl;
+      position-24 = refl;
       position-28 = refl;
       position-13 = refl;
       position-written = refl;
