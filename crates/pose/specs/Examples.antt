@@ -22,7 +22,7 @@ abbrev pub inColumns : Transform
 inColumns =
     record { column1 = 1 ∷ 2 ∷ 3 ∷ []; column2 = 4 ∷ 5 ∷ 6 ∷ []; column3 = 7 ∷ 8 ∷ 9 ∷ []; translation = 10 ∷ 11 ∷ 12 ∷ [] }
 
--- minus nought, no number, and all bits
+-- minus zero, a NaN, and all bits set
 abbrev pub anyBits : List ℕ
 anyBits = 0x80 ∷ 0 ∷ 0 ∷ 0 ∷ 0x7F ∷ 0xC0 ∷ 0 ∷ 1 ∷ 0xFF ∷ 0xFF ∷ 0xFF ∷ 0xFF ∷ []
 
