@@ -1,18 +1,14 @@
 -- Answers as bytes: each number in eight.
 use Prim.Native.Nat.{ℕ}
-use mathlib.Core.List.{List, [], _∷_, _++_, map}
-use Rattle.fields.specs.Numbers.{beBytes}
-use Rattle.fields.specs.Layout.{join}
+use mathlib.Core.List.{List, [], _∷_, _++_}
+use lib.ListN.{replicate}
+use Rattle.fields.specs.Layout.{join, numberFields}
 use Rattle.message.specs.declared.Answer.{Answer}
 use Rattle.message.specs.Message.{Parts}
 use Rattle.message.specs.Writer.{given}
 use Rattle.replay.specs.declared.CallAnswer.{CallAnswer}
 use Rattle.replay.specs.declared.CallAnswer.the-variants.{Accepted, Added, Empty, Green, Grey, Refused, NoCall}
 use Rattle.replay.specs.declared.Answered.{Answered}
-
--- numbers as fields of eight bytes
-abbrev pub numberFields8 : List ℕ → List (List ℕ)
-numberFields8 vs = map (beBytes 8) vs
 
 -- ---- messages
 
@@ -26,7 +22,7 @@ partNumbers a = a .«further_at» ∷ a .«further_len» ∷ a .«content_at» �
 
 -- the number, and then those
 abbrev pub answerBytes : Answer → List ℕ
-answerBytes a = join (numberFields8 (a .number ∷ (fieldNumbers a ++ partNumbers a)))
+answerBytes a = join (numberFields (replicate 13 8) (a .number ∷ (fieldNumbers a ++ partNumbers a)))
 
 -- the message that the writer is given
 abbrev pub messageGiven : ℕ → ℕ → ℕ → List ℕ → List ℕ → List ℕ → List ℕ → List ℕ → Parts
@@ -35,28 +31,29 @@ messageGiven version stamp id t n further content metadata =
 
 -- ---- scripts
 
-abbrev pub kindOf : CallAnswer → ℕ
-kindOf Accepted = 0
-kindOf (Added i) = 1
-kindOf Empty = 2
-kindOf (Green a) = 3
-kindOf (Grey a) = 4
-kindOf (Refused n) = 5
-kindOf NoCall = 6
+-- which answer
+abbrev pub answerCode : CallAnswer → ℕ
+answerCode Accepted = 0
+answerCode (Added i) = 1
+answerCode Empty = 2
+answerCode (Green a) = 3
+answerCode (Grey a) = 4
+answerCode (Refused n) = 5
+answerCode NoCall = 6
 
--- a tile's number, an age, or document 01's number
-abbrev pub numberOf : CallAnswer → ℕ
-numberOf Accepted = 0
-numberOf (Added i) = i
-numberOf Empty = 0
-numberOf (Green a) = a
-numberOf (Grey a) = a
-numberOf (Refused n) = n
-numberOf NoCall = 0
+-- the number that goes with it: a tile's, an age, or document 01's
+abbrev pub carriedNumber : CallAnswer → ℕ
+carriedNumber Accepted = 0
+carriedNumber (Added i) = i
+carriedNumber Empty = 0
+carriedNumber (Green a) = a
+carriedNumber (Grey a) = a
+carriedNumber (Refused n) = n
+carriedNumber NoCall = 0
 
 -- which answer, its number, and the length of its value; then the value
 abbrev pub answeredFields : Answered → List (List ℕ)
-answeredFields r = numberFields8 (kindOf (r .answer) ∷ numberOf (r .answer) ∷ r .value .len ∷ []) ++ (r .value .bytes ∷ [])
+answeredFields r = numberFields (replicate 3 8) (answerCode (r .answer) ∷ carriedNumber (r .answer) ∷ r .value .len ∷ []) ++ (r .value .bytes ∷ [])
 
 abbrev pub answeredBytes : Answered → List ℕ
 answeredBytes r = join (answeredFields r)

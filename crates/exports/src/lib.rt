@@ -10,13 +10,13 @@ ghost use mathlib.Core.List.{[], _∷_};
 ghost use lib.ListN.{length, replicate};
 ghost use lib.Seq.{sets};
 ghost use Rattle.fields.specs.Answer.{writtenNumber, writtenCount};
-ghost use Rattle.fields.specs.Layout.{stores};
+ghost use Rattle.fields.specs.Layout.{stores, numberFields};
 ghost use Rattle.crc64.specs.Crc.{crcOf};
 ghost use Rattle.content.specs.Check.{contentFault, deepest};
 ghost use Rattle.message.specs.Check.{readOf};
 ghost use Rattle.message.specs.Writer.{messageWritten, messageOut};
 ghost use Rattle.replay.specs.Replay.{answerAt, lookAfter};
-ghost use Rattle.exports.specs.Exports.{numberFields8, fieldNumbers, partNumbers, answerBytes, messageGiven, kindOf, numberOf, answeredFields, answeredBytes};
+ghost use Rattle.exports.specs.Exports.{fieldNumbers, partNumbers, answerBytes, messageGiven, answerCode, carriedNumber, answeredFields, answeredBytes};
 
 // ---- the CRC and the contents
 
@@ -48,7 +48,7 @@ pub extern "C" fn kudireppa_read(stream: &[u8], number: &mut u8) -> usize
 }
 
 fn put_fields(answer: Answer, out: &mut [u8])
-    ensures { λ _. ⌜ now (out .exit) ≡ stores (now (out .entry)) 8 (numberFields8 (fieldNumbers answer)) (replicate 6 8) ⌝ }
+    ensures { λ _. ⌜ now (out .exit) ≡ stores (now (out .entry)) 8 (numberFields (replicate 6 8) (fieldNumbers answer)) (replicate 6 8) ⌝ }
 {
     fields::number::put64(answer.step as u64, 8, out);
     fields::number::put64(answer.version as u64, 16, out);
@@ -59,7 +59,7 @@ fn put_fields(answer: Answer, out: &mut [u8])
 }
 
 fn put_parts(answer: Answer, out: &mut [u8])
-    ensures { λ _. ⌜ now (out .exit) ≡ stores (now (out .entry)) 56 (numberFields8 (partNumbers answer)) (replicate 6 8) ⌝ }
+    ensures { λ _. ⌜ now (out .exit) ≡ stores (now (out .entry)) 56 (numberFields (replicate 6 8) (partNumbers answer)) (replicate 6 8) ⌝ }
 {
     fields::number::put64(answer.further_at as u64, 56, out);
     fields::number::put64(answer.further_len as u64, 64, out);
@@ -119,8 +119,8 @@ pub extern "C" fn kudireppa_write(
 // ---- scripts of calls on a panel
 
 // Which answer, as a number.
-fn kind_of(answer: CallAnswer) -> u64
-    ensures { λ r. ⌜ r ≡ kindOf answer ⌝ }
+fn answer_code(answer: CallAnswer) -> u64
+    ensures { λ r. ⌜ r ≡ answerCode answer ⌝ }
 {
     match answer {
         CallAnswer::Accepted => 0,
@@ -134,8 +134,8 @@ fn kind_of(answer: CallAnswer) -> u64
 }
 
 // The tile, the age or the number that goes with it.
-fn number_of(answer: CallAnswer) -> u64
-    ensures { λ r. ⌜ r ≡ numberOf answer ⌝ }
+fn carried_number(answer: CallAnswer) -> u64
+    ensures { λ r. ⌜ r ≡ carriedNumber answer ⌝ }
 {
     match answer {
         CallAnswer::Accepted => 0,
@@ -161,8 +161,8 @@ fn put_answered(answered: Answered, out: &mut [u8])
     let value = answered.value;
     let answer = answered.answer;
     let bytes = value.bytes;
-    fields::number::put64(kind_of(answer), 0, out);
-    fields::number::put64(number_of(answer), 8, out);
+    fields::number::put64(answer_code(answer), 0, out);
+    fields::number::put64(carried_number(answer), 8, out);
     fields::number::put64(value.len as u64, 16, out);
     put_value(bytes, out);
 }
