@@ -1,4 +1,4 @@
--- A bundle as document 01 describes it: a list of children, and the BIND content that it is written as. Nothing here reads bytes.
+-- A bundle (rules 4.9 to 4.13): a list of children, and the BIND content that it is written as. Nothing here reads bytes.
 use Prim.Native.Nat.{ℕ, _%_, _^_, _≤_, _<_}
 use mathlib.Core.List.{List, [], _∷_, _++_}
 use lib.ListN.{length, replicate}
@@ -28,15 +28,15 @@ ended name = name ++ (0 ∷ [])
 unfoldable pub childName : Child → List ℕ
 childName c = ended (c .name)
 
--- a child's data, followed by one 0 byte if its size is odd
+-- a child's data with its pad (rule 4.11)
 unfoldable pub childData : Child → List ℕ
 childData c = padded (c .content)
 
--- the name table: the names, then one more 0 if the total is odd
+-- the name table: the names, and a 0 that makes the number of bytes even (rule 4.10)
 unfoldable pub nameTable : List Child → List ℕ
 nameTable cs = padded (flat childName cs)
 
--- N_CHILD; for each child CTYPE and CSIZE; NAME_TABLE_SIZE, which counts the table's last 0 too; the table; the children's data
+-- the fields of rule 4.9: the number of children, their headers, the bytes of the name table, the table itself, and the data
 unfoldable pub encodeChildren : List Child → List ℕ
 encodeChildren cs =
     join

@@ -45,14 +45,14 @@ sizeOf h = beAt 8 12 h
 abbrev pub afterBlock : ℕ → List ℕ → List ℕ
 afterBlock n d = drop (n % 2) (drop n d)
 
--- ---- the layout's rule
+-- ---- the check of the layout (rules 4.9 to 4.12)
 
 -- each CTYPE is a text field
 unfoldable pub typesOk : ℕ → List ℕ → Bool
 typesOk zero h = true
 typesOk (suc k) h = fieldOk (take 12 h) && typesOk k (drop 20 h)
 
--- a name: bytes 1 to 127, ended by a 0
+-- a text, ended by a 0, stands in front
 unfoldable pub nameOk : List ℕ → Bool
 nameOk t = ltb (length (textOf t)) (length t) && textOk t
 
@@ -61,7 +61,7 @@ unfoldable pub namesOk : ℕ → List ℕ → Bool
 namesOk zero t = leb (length t) 1 && allZero t
 namesOk (suc k) t = nameOk t && namesOk k (pastText t)
 
--- the one 0 more stands where the total is odd, so the size is even
+-- with the further 0 (rule 4.10) the size is even
 unfoldable pub tableOk : ℕ → List ℕ → Bool
 tableOk n t = eqb (length t % 2) 0 && namesOk n t
 
@@ -69,11 +69,11 @@ tableOk n t = eqb (length t % 2) 0 && namesOk n t
 unfoldable pub padOk : ℕ → List ℕ → Bool
 padOk p d = leb p (length d) && allZero (take p d)
 
--- n bytes of data stand in front, and after them one 0 byte if n is odd
+-- n bytes of data stand in front, and their pad after them (rule 4.11)
 unfoldable pub blockOk : ℕ → List ℕ → Bool
 blockOk n d = leb n (length d) && padOk (n % 2) (drop n d)
 
--- the data of each child, the last one's pad too, and nothing after it
+-- the data of each child with its pad, that of the last one too, and nothing after it (rule 4.12)
 unfoldable pub dataOk : ℕ → List ℕ → List ℕ → Bool
 dataOk zero h d = eqb (length d) 0
 dataOk (suc k) h d = blockOk (sizeOf h) d && dataOk k (drop 20 h) (afterBlock (sizeOf h) d)

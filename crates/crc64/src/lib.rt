@@ -1,4 +1,4 @@
-// CRC-64 as ECMA-182 defines it, computed bit by bit.
+// CRC-64 as ECMA-182 defines it (rule 2.3), computed bit by bit.
 ghost use mathlib.Core.Path.{_≡_};
 ghost use Rattle.crc64.specs.Crc.{bitStep, byteStep, crcOf};
 

@@ -7,7 +7,7 @@ use lib.ListN.{length, drop}
 use Rattle.fields.specs.declared.Written.{Written}
 use Rattle.fields.specs.declared.Written.the-variants.{Wrote, Refused}
 
--- document 01's number of each answer
+-- the number of each answer (rule 5.1)
 abbrev pub writtenNumber : Written → ℕ
 writtenNumber (Wrote n) = 0
 writtenNumber (Refused k) = k
@@ -21,10 +21,10 @@ writtenCount (Refused k) = 0
 unfoldable pub writtenOf : ℕ → ℕ → Written
 writtenOf fault n = cond (eqb fault 0) (Wrote n) (Refused fault)
 
--- check 20: the output is too short for n bytes
+-- check 20: a buffer of this length is too short for n bytes
 unfoldable pub roomFault : ℕ → ℕ → ℕ
 roomFault n room = cond (leb n room) 0 20
 
--- the buffer that such a writer leaves: the bytes and what stood behind them, or all as it was
+-- the buffer that such a writer leaves: the bytes and what stood behind them (rule 5.13), or all as it was (rule 1.3)
 unfoldable pub outAfter : ℕ → List ℕ → List ℕ → List ℕ
 outAfter fault bytes out = cond (eqb fault 0) (bytes ++ drop (length bytes) out) out

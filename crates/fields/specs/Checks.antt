@@ -1,4 +1,4 @@
--- Checks in order. A fault is document 01's number for it, and 0 is none.
+-- Checks in order. A fault is a number of rule 5.1, and 0 is none. Check 8 is the check whose fault is 8.
 use Prim.Native.Nat.{ℕ, zero, suc}
 
 -- the first fault of two

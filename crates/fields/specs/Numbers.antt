@@ -1,4 +1,4 @@
--- Big-endian numbers, over the width: the number that bytes spell, and the bytes of a number.
+-- Big-endian numbers (rule 2.1), over the width: the number that bytes spell, and the bytes of a number.
 use Prim.Native.Nat.{ℕ, zero, suc, _+_, _*_, _/_, _%_, _^_, _<_}
 use mathlib.Core.Path.{_≡_}
 use mathlib.Core.List.{List, [], _∷_}

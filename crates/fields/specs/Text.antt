@@ -1,4 +1,4 @@
--- Texts, and the fields that hold them. Document 01's text field: bytes 1 to 127, then zeros to its end; it may be full, or empty.
+-- Texts, and the fields that hold them (rule 2.2). A text has no byte 0 and none above 127; behind it, its field has only zeros.
 use Prim.Native.Nat.{ℕ, _<_, _≤_}
 use mathlib.Core.Path.{_≡_}
 use mathlib.Core.Bool.{Bool, true, cond, _&&_}

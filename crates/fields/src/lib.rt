@@ -1,5 +1,6 @@
-// Fields of a byte layout, read from lent slices and written into lent buffers. Every function answers for every slice, place and
-// number: a read past the end leaves out what is not there, and a write past the end leaves out what does not fit.
+// Fields of a byte layout, read from lent slices and written into lent buffers. Lent means passed by reference: the memory stays the
+// caller's. Every function answers for every slice, place and number: a read past the end leaves out what is not there, and a write past
+// the end leaves out what does not fit.
 pub mod number;
 pub mod slice;
 pub mod store;
@@ -8,7 +9,7 @@ pub mod text;
 ghost use mathlib.Core.Path.{_≡_};
 ghost use Rattle.fields.specs.Answer.{writtenNumber, writtenCount, roomFault};
 
-// The answer of a writer: how many bytes it wrote, or document 01's number of the refusal.
+// The answer of a writer: how many bytes it wrote, or the number of the refusal (rule 5.1).
 pub enum Written {
     Wrote(usize),
     Refused(u8),

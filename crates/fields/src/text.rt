@@ -1,4 +1,4 @@
-// Texts and text fields.
+// Texts and text fields (rule 2.2).
 ghost use mathlib.Core.Path.{_≡_};
 ghost use lib.ListN.{length};
 ghost use lib.Seq.{sets};

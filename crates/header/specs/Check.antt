@@ -28,15 +28,15 @@ headerOf s =
       crc = beAt 8 50 s;
     }
 
--- check 1 of the header: fewer bytes than 58
+-- check 1 of the header: it has not arrived whole
 unfoldable pub shortFault : List ℕ → ℕ
 shortFault s = cond (leb 58 (length s)) 0 1
 
--- check 2: TYPE or DEVICE_NAME is no text field
+-- check 2: TYPE or DEVICE_NAME breaks rule 2.2
 unfoldable pub textsFault : List ℕ → ℕ
 textsFault s = cond (fieldOk (part 12 2 s) && fieldOk (part 20 14 s)) 0 2
 
--- check 3: BODY_SIZE above the limit
+-- check 3: BODY_SIZE breaks rule 3.3
 unfoldable pub limitFault : ℕ → ℕ
 limitFault n = cond (leb n limit) 0 3
 
@@ -65,7 +65,7 @@ headerRead s = cond (eqb (headerFault s) 0) (handed (headerOf s)) (refused (head
 
 -- ---- the writer
 
--- check 2 of a writer: names of bytes 1 to 127, at most 12 and 20 of them
+-- check 2 of a writer: the names are texts that fit their fields (rule 5.8)
 unfoldable pub namesFault : List ℕ → List ℕ → ℕ
 namesFault t n = cond (leb (length t) 12 && (leb (length n) 20 && (isText t && isText n))) 0 2
 

@@ -12,6 +12,6 @@ pub record Examples : Type 0 where
   pub least : nanosecondsOf 1 ≡ 0
   pub rounded-down : nanosecondsOf 5 ≡ 1
   pub largest : nanosecondsOf 0xFFFFFFFFFFFFFFFF ≡ 999999999
-  -- BODY_SIZE is at most 16,777,216
+  -- the largest body, and one byte more
   pub at-limit : limitFault 16777216 ≡ 0
   pub above-limit : limitFault 16777217 ≡ 3

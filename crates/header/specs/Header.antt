@@ -1,4 +1,4 @@
--- The header of a message as document 01 describes it, and the 58 bytes that it is written as. Nothing here reads bytes.
+-- The header of a message (rule 3.1), and the 58 bytes that it is written as. Nothing here reads bytes.
 use Prim.Native.Nat.{ℕ, _^_, _<_, _≤_}
 use mathlib.Core.List.{List, [], _∷_}
 use lib.ListN.{length}
@@ -14,7 +14,7 @@ pub record Header : Type 0 where
   pub bodySize : ℕ
   pub crc : ℕ
 
--- V 2, TYPE 12, DEVICE_NAME 20, TIME_STAMP 8, BODY_SIZE 8, CRC 8
+-- the widths of its fields, in the order of rule 3.1
 abbrev pub headerWidths : List ℕ
 headerWidths = 2 ∷ 12 ∷ 20 ∷ 8 ∷ 8 ∷ 8 ∷ []
 
@@ -46,7 +46,7 @@ pub record HeaderFits (h : Header) : Type 0 where
   pub size-fits : h .bodySize < 256 ^ 8
   pub crc-fits : h .crc < 256 ^ 8
 
--- BODY_SIZE is at most 16,777,216
+-- the largest body (rule 3.3)
 abbrev pub limit : ℕ
 limit = 16777216
 

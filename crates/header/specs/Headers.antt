@@ -44,7 +44,7 @@ pub record Headers : Type 0 where
   pub accepted : (s : List ℕ) → Bytes s → headerFault s ≡ 0 → BeginsWith s (headerOf s)
   pub begun : (s : List ℕ) (h : Header) → BeginsWith s h → headerRead s ≡ handed h
   pub unique : (s : List ℕ) (g h : Header) → BeginsWith s g → BeginsWith s h → g ≡ h
-  -- document 01's number for each refusal, in its order
+  -- the number of each refusal, in the order of rule 5.2
   pub short : (s : List ℕ) → length s < 58 → headerRead s ≡ refused 1
   pub no-text : (s : List ℕ) → 58 ≤ length s → (TextsHeld s → ⊥) → headerRead s ≡ refused 2
   pub too-long : (s : List ℕ) → 58 ≤ length s → TextsHeld s → limit < beAt 8 42 s → headerRead s ≡ refused 3

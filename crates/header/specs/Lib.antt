@@ -1,3 +1,5 @@
+-- The header and how it is written; its check, reader and writer; the statements about them; the time stamp; examples.
+
 pub mod Header
 pub mod Check
 pub mod Headers

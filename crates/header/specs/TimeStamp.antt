@@ -1,4 +1,4 @@
--- TIME_STAMP of document 01: whole seconds in the upper 32 bits, a fraction f in the lower; its nanoseconds are floor(f x 10^9 / 2^32).
+-- TIME_STAMP (rule 3.12): the seconds, the fraction of a second in units of 2^-32, and that fraction in nanoseconds, rounded down.
 use Prim.Native.Nat.{ℕ, _*_, _/_, _%_, _^_}
 
 abbrev pub secondsOf : ℕ → ℕ

@@ -1,4 +1,4 @@
-// The header of a message: 58 bytes, judged, read and written by themselves; and the two parts of a time stamp.
+// The header of a message (rule 3.1): 58 bytes, judged, read and written by themselves; and the two parts of a time stamp.
 pub mod time_stamp;
 
 use fields::Written;
@@ -20,8 +20,8 @@ ghost use Rattle.fields.specs.Layout.{stores};
 ghost use Rattle.header.specs.Header.{headerWidths, headerFields};
 ghost use Rattle.header.specs.Check.{headerOf, textsFault, limitFault, headerFault, handed, refused, headerRead, namesFault, given, writeFault, headerWritten, headerOut};
 
-// What the reader of a header hands out: document 01's number, 0 for none; the fields, with the lengths of the two texts. All 0 where
-// refused.
+// What the reader of a header hands out: the number (rule 5.1), 0 where accepted; the fields, with the lengths of the two texts. Where
+// refused, all but the number is 0.
 pub struct HeaderRead {
     pub number: u8,
     pub version: u16,
@@ -61,7 +61,7 @@ fn size_at(stream: &[u8]) -> usize
     be64(stream, 42) as usize
 }
 
-// 2 where TYPE or DEVICE_NAME is no text field.
+// 2 where TYPE or DEVICE_NAME breaks rule 2.2.
 fn texts_fault(stream: &[u8]) -> u8
     ensures { λ r. ⌜ r ≡ textsFault (now (stream .entry)) ⌝ }
 {
@@ -74,7 +74,7 @@ fn texts_fault(stream: &[u8]) -> u8
     0
 }
 
-// 3 for a BODY_SIZE above the limit.
+// 3 for a BODY_SIZE that breaks rule 3.3.
 fn limit_fault(size: usize) -> u8
     ensures { λ r. ⌜ r ≡ limitFault size ⌝ }
 {
@@ -139,7 +139,7 @@ pub fn read_header(stream: &[u8]) -> HeaderRead
     handed(stream)
 }
 
-// 2 where these are no names for a writer: bytes 1 to 127, at most 12 of TYPE and 20 of DEVICE_NAME.
+// 2 where these are no names for a writer (rule 5.8): texts of at most 12 bytes for TYPE and 20 for DEVICE_NAME.
 pub fn names_number(type_text: &[u8], device_name: &[u8]) -> u8
     ensures { λ r. ⌜ r ≡ namesFault (now («type_text» .entry)) (now («device_name» .entry)) ⌝ }
 {

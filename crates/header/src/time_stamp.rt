@@ -1,4 +1,4 @@
-// The two parts of a TIME_STAMP: whole seconds in its upper 32 bits, a fraction in the lower.
+// The two parts of a TIME_STAMP (rule 3.12): seconds, and a fraction of a second.
 ghost use mathlib.Core.Path.{_≡_};
 ghost use Rattle.header.specs.TimeStamp.{secondsOf, nanosecondsOf};
 

@@ -1,4 +1,4 @@
--- The layout of a header, byte by byte, and P9 of document 01, of the definitions.
+-- The layout of a header, byte by byte, and case P9 of rule 8.1.
 use Prim.Native.Nat.{ℕ}
 use mathlib.Core.Path.{_≡_}
 use mathlib.Core.List.{List, [], _∷_, _++_}
@@ -47,7 +47,7 @@ distinct =
       «sub_size» = 4 ∷ 6 ∷ 7 ∷ [];
     }
 
--- its bytes, in document 01's order: V, T, S, E, O; RI RJ RK; the floats T, S, N, P; DI DJ DK; DRI DRJ DRK
+-- its bytes, in the order of rule 4.5: V, T, S, E and O; the image's size; the four vectors; where the part begins; the part's size
 abbrev pub distinctBytes : List ℕ
 distinctBytes =
     0x01 ∷ 0x02 ∷ 3 ∷ 5 ∷ 1 ∷ 2
@@ -64,7 +64,7 @@ pub record Examples : Type 0 where
   -- the order and the widths of the fields: written, and read before 3 x 2 x (4 x 6 x 7) bytes of pixels
   pub layout : encodeImage (imageOfParts distinct []) ≡ distinctBytes
   pub layout-read : imageOf (distinctBytes ++ replicate 1008 7) ≡ record { number = 0; header = distinct }
-  -- T 3, S 5, 2 x 2 x 1 pixels: 96 bytes
+  -- P9: four pixels of three components, two bytes each
   pub bytes : length (content (header 5 2 0 2) 24) ≡ 96
   pub accepted : imageFault (content (header 5 2 0 2) 24) ≡ 0
   pub handed : imageOf (content (header 5 2 0 2) 24) ≡ record { number = 0; header = header 5 2 0 2 }
@@ -72,7 +72,7 @@ pub record Examples : Type 0 where
   -- one byte of pixels less, one more
   pub short : imageFault (content (header 5 2 0 2) 23) ≡ 9
   pub long : imageFault (content (header 5 2 0 2) 25) ≡ 9
-  -- RI 3, DI 1, DRI 2 passes; RI 2 is 9
+  -- a part of size 2 that begins at 1: inside an image of size 3, and not inside one of size 2
   pub inside : imageFault (content (header 5 3 1 2) 24) ≡ 0
   pub outside : imageFault (content (header 5 2 1 2) 24) ≡ 9
   -- DI + DRI is 2 in 16 bits

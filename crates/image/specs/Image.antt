@@ -1,5 +1,5 @@
--- IMAGE of document 01: a header of 72 bytes, then pixels. What an image is and how it is written, without any check; then the check, the
--- reader and the writer; then what holds between the two.
+-- IMAGE (rules 4.5 to 4.8): a header of 72 bytes, then pixels. What an image is and how it is written, without any check; then the
+-- check, the reader and the writer; then what holds between the two.
 use Prim.Native.Nat.{ℕ, _+_, _-_, _*_, _<_, _≤_}
 use mathlib.Core.Path.{_≡_}
 use mathlib.Core.Logic.{_⊎_}
@@ -31,7 +31,7 @@ along d a = getD a d 0
 abbrev pub three : List ℕ → List ℕ
 three a = along 0 a ∷ along 1 a ∷ along 2 a ∷ []
 
--- the fields of a header in the protocol's order: V, T, S, E, O, RI RJ RK, the vectors T, S, N, P, DI DJ DK, DRI DRJ DRK
+-- the fields of a header, in the order of rule 4.5
 abbrev pub headerNumbers : ImageHeader → List ℕ
 headerNumbers h =
     h .version
@@ -47,7 +47,7 @@ headerNumbers h =
     ++ (three (h .offset)
     ++ three (h .«sub_size»)))))))
 
--- their bytes: 72 together
+-- their widths: 72 bytes together
 abbrev pub headerWidths : List ℕ
 headerWidths =
     2 ∷ 1 ∷ 1 ∷ 1 ∷ 1
@@ -63,14 +63,14 @@ headerWidths =
 unfoldable pub encodeImage : Image → List ℕ
 encodeImage x = join (numberFields headerWidths (headerNumbers (x .header))) ++ x .pixels
 
--- ---- document 01's rule of IMAGE
+-- ---- what rules 4.5 to 4.8 ask of an image
 
 -- each number fits its field, and each array has three entries: so is every value of the struct
 pub record HeaderFits (h : ImageHeader) : Type 0 where
   pub numbers : NumbersFit headerWidths (headerNumbers h)
   pub arrays : Each (λ (a : List ℕ). length a ≡ 3) (h .size ∷ h .«axis_i» ∷ h .«axis_j» ∷ h .«axis_k» ∷ h .centre ∷ h .offset ∷ h .«sub_size» ∷ [])
 
--- S, and the bytes of one scalar
+-- S, and the bytes of one scalar (rule 4.6)
 pub data ScalarType : ℕ → ℕ → Type 0 where
   int8 : ScalarType 2 1
   uint8 : ScalarType 3 1
@@ -81,14 +81,14 @@ pub data ScalarType : ℕ → ℕ → Type 0 where
   float32 : ScalarType 10 4
   float64 : ScalarType 11 8
 
--- in one direction, RI, DI and DRI: RI and DRI are at least 1, DI + DRI is at most RI
+-- one direction: the image and the part have a size, and the part lies inside the image (rule 4.7)
 pub record Direction (size offset sub : ℕ) : Type 0 where
   pub some-pixels : 1 ≤ size
   pub some-sent : 1 ≤ sub
   pub inside : offset + sub ≤ size
 
--- a header and n bytes of pixels: T is at least 1, S one of the eight types, E and O are 1 or 2, and the pixels take exactly
--- T x size x DRI x DRJ x DRK bytes
+-- a header and n bytes of pixels: there is a component, S is one of the eight types, E and O are 1 or 2, each direction keeps its rule,
+-- and n is the number of bytes that the part's pixels have (rule 4.8)
 pub record ImageRule (h : ImageHeader) (n : ℕ) : Type 0 where
   pub some-component : 1 ≤ h .components
   pub scalar-bytes : ℕ
@@ -138,7 +138,7 @@ directionOk h d = within (along d (h .size)) (along d (h .offset)) (along d (h .
 unfoldable pub directionsOk : ImageHeader → Bool
 directionsOk h = directionOk h 0 && (directionOk h 1 && directionOk h 2)
 
--- T x size x DRI x DRJ x DRK
+-- the number of bytes that the part's pixels have
 unfoldable pub pixelBytes : ImageHeader → ℕ
 pixelBytes h = h .components * scalarSize (h .«scalar_type») * (along 0 (h .«sub_size») * along 1 (h .«sub_size») * along 2 (h .«sub_size»))
 

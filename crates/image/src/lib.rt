@@ -1,5 +1,5 @@
-// IMAGE contents: the rule, the header as a struct of numbers, the pixels as a part of the content, and the writer. Floats are carried
-// bit for bit, as the words that hold them.
+// IMAGE contents (rules 4.5 to 4.8): the check, the header as a struct of numbers, the pixels as a part of the content, and the writer.
+// A float is a u32 word, the number that its bits spell (rule 4.4).
 use fields::Written;
 use fields::number::be8;
 use fields::number::be16;
@@ -18,13 +18,13 @@ ghost use lib.ListN.{take, drop, replicate};
 ghost use Rattle.fields.specs.Layout.{numbersAt, numberFields, stores};
 ghost use Rattle.image.specs.Image.{three, headerNumbers, headerWidths, scalarSize, oneOrTwo, kindOk, within, directionOk, directionsOk, pixelBytes, ruleFault, headerOf, imageFault, noHeader, imageOf, pixelsOf, writeFault, imageWritten, imageAfter};
 
-// The 72 bytes before the pixels. The vectors are those that document 01 calls T, S, N and P.
+// The 72 bytes before the pixels (rule 4.5), each field with the protocol's name for it.
 pub struct ImageHeader {
     // V: any
     pub version: u16,
     // T: the number of components, at least 1
     pub components: u8,
-    // S: 2 to 7, 10 or 11
+    // S: the type of a scalar (rule 4.6)
     pub scalar_type: u8,
     // E: 1 or 2, the order of bytes in the pixels
     pub endian: u8,
@@ -86,7 +86,7 @@ fn kind_ok(header: ImageHeader) -> bool
     one_or_two(header.coordinate)
 }
 
-// One direction: RI, DI and DRI. The sum of two 16-bit numbers is formed in 32 bits.
+// One direction: RI, DI and DRI (rule 4.7). The sum of two 16-bit numbers is formed in 32 bits.
 fn within(size: u16, offset: u16, sub: u16) -> bool
     ensures { λ r. ⌜ r ≡ within size offset sub ⌝ }
 {
@@ -131,7 +131,7 @@ fn product(components: u8, scalar: usize, i: u16, j: u16, k: u16) -> usize
     components as usize * scalar * pixels
 }
 
-// T x size x DRI x DRJ x DRK.
+// How many bytes of pixels the header asks for (rule 4.8).
 fn pixel_bytes(header: ImageHeader) -> usize
     ensures value { λ r. ⌜ r ≡ pixelBytes header ⌝ }
     ensures bound { λ r. ⌜ r < 2 ^ 59 ⌝ }

@@ -1,4 +1,4 @@
--- Check 7 of document 01: metadata breaks its rule. A section lent by itself is judged at any length, and no bytes are no section.
+-- Check 7: does metadata break rules 3.8 and 3.9? A section by itself may have any length (rule 5.7), and no bytes are no section.
 use Prim.Native.Nat.{ℕ, zero, suc, _+_, _*_}
 use mathlib.Core.Bool.{Bool, cond, _&&_}
 use mathlib.Core.List.{List}
@@ -30,7 +30,7 @@ entrySize h = keySize h + valueSize h
 unfoldable pub entryOk : List ℕ → List ℕ → Bool
 entryOk h d = ltb 0 (keySize h) && (leb (entrySize h) (length d) && isText (take (keySize h) d))
 
--- k entries, by what is left of the headers and of the data; the section is filled exactly
+-- k entries, by what is left of the headers and of the data, and no byte left over
 unfoldable pub entriesOk : ℕ → List ℕ → List ℕ → Bool
 entriesOk zero h d = eqb (length d) 0
 entriesOk (suc k) h d = entryOk h d && entriesOk k (drop 8 h) (drop (entrySize h) d)

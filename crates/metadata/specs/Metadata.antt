@@ -1,4 +1,4 @@
--- Metadata as document 01 describes it: no section, or a section of entries, and the bytes that it is written as. Nothing here reads bytes.
+-- Metadata (rules 3.8 to 3.11): no section, or a section of entries, and the bytes that it is written as. Nothing here reads bytes.
 use Prim.Native.Nat.{ℕ, _^_, _<_}
 use mathlib.Core.List.{List, [], _∷_, _++_}
 use lib.ListN.{length}
@@ -14,20 +14,20 @@ pub record Entry : Type 0 where
   pub encoding : ℕ
   pub value : List ℕ
 
--- a section without entries and no section are different
+-- a section without entries is not the same as none (rule 3.11)
 pub data Metadata : Type 0 where
   absent : Metadata
   section : List Entry → Metadata
 
--- KEY_SIZE 2, VALUE_ENCODING 2, VALUE_SIZE 4
+-- the sizes of key and value, with the encoding between them
 unfoldable pub entryHeader : Entry → List ℕ
 entryHeader e = join (beBytes 2 (length (e .key)) ∷ beBytes 2 (e .encoding) ∷ beBytes 4 (length (e .value)) ∷ [])
 
--- key and value in turn
+-- the key, and the value behind it
 unfoldable pub entryData : Entry → List ℕ
 entryData e = e .key ++ e .value
 
--- INDEX_COUNT 2, the headers, the keys and values; no section is no bytes
+-- the count, the headers, and then each key with its value; no section is no bytes
 unfoldable pub encodeMetadata : Metadata → List ℕ
 encodeMetadata absent = []
 encodeMetadata (section es) = beBytes 2 (length es) ++ (flat entryHeader es ++ flat entryData es)

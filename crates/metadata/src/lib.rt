@@ -1,6 +1,6 @@
-// Metadata sections: the check, and the look-up of a value by its key. A look-up checks the section once, and answers its fault before
-// its own. A section of 0 bytes is no section: it is accepted and has no key. A value that is handed back lies in the lent section; an
-// empty value looks like a refusal there, so ask the number first.
+// Metadata sections (rules 3.8 to 3.11): the check, and the look-up of a value by its key. A look-up checks the section once, and answers
+// its fault before its own. A section of 0 bytes is no section: it is accepted and has no key. A value that is handed back lies in the
+// lent section; an empty value looks like a refusal there, so ask the number first.
 mod parts;
 mod walk;
 
@@ -8,7 +8,7 @@ ghost use mathlib.Core.Path.{_≡_};
 ghost use Rattle.metadata.specs.Check.{sectionOk, metadataFault};
 ghost use Rattle.metadata.specs.Lookup.{refused, valuePlace, valueOf};
 
-// Document 01's number, the value's VALUE_ENCODING, and where the value stands in the section and how long it is: all 0 besides the
+// The number (rule 5.1), the value's VALUE_ENCODING, and where the value stands in the section and how long it is: all 0 besides the
 // number where refused.
 pub struct ValuePlace {
     pub number: u8,

@@ -17,7 +17,7 @@ twelveWords =
     ∷ 0 ∷ 0 ∷ 0 ∷ 10 ∷ 0 ∷ 0 ∷ 0 ∷ 11 ∷ 0 ∷ 0 ∷ 0 ∷ 12
     ∷ []
 
--- the rotation in columns, then TX TY TZ
+-- the rotation in columns, and the translation
 abbrev pub inColumns : Transform
 inColumns =
     record { column1 = 1 ∷ 2 ∷ 3 ∷ []; column2 = 4 ∷ 5 ∷ 6 ∷ []; column3 = 7 ∷ 8 ∷ 9 ∷ []; translation = 10 ∷ 11 ∷ 12 ∷ [] }

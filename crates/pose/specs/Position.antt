@@ -1,4 +1,4 @@
--- POSITION: 12, 24 or 28 bytes, all 32-bit floats.
+-- POSITION (rule 4.3): 3, 6 or 7 words.
 use Prim.Native.Nat.{ℕ, _*_, _-_, _≤_}
 use mathlib.Core.Path.{_≡_}
 use mathlib.Core.Bool.{cond}

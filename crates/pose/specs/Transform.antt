@@ -1,4 +1,4 @@
--- TRANSFORM: 48 bytes, twelve 32-bit floats: three columns of the rotation, then TX TY TZ.
+-- TRANSFORM (rule 4.2): the nine words of the rotation, column after column, and the three of the translation.
 use Prim.Native.Nat.{ℕ, _≤_}
 use mathlib.Core.Path.{_≡_}
 use mathlib.Core.Bool.{cond}
@@ -28,7 +28,7 @@ IsTransform c = (ws : List ℕ) × WellTransform ws × (wordBytes ws ≡ c)
 unfoldable pub transformFault : List ℕ → ℕ
 transformFault content = cond (eqb (length content) 48) 0 8
 
--- the entries where they stand: column by column, each from its first row to its third, then TX TY TZ
+-- the entries where they stand: column by column, each from its first row to its third, and the translation last
 abbrev pub transformAt : List ℕ → Transform
 transformAt content =
     record {

@@ -1,10 +1,10 @@
--- Floats as they are carried: bit for bit, as 32-bit words.
+-- Floats (rule 4.4): each is a word, the number that its 32 bits spell.
 use Prim.Native.Nat.{ℕ, _^_, _<_}
 use mathlib.Core.List.{List}
 use Rattle.fields.specs.Lists.{Each, flat}
 use Rattle.fields.specs.Numbers.{beBytes}
 
--- every number is a 32-bit word; any bits will do
+-- every number is a word of 32 bits
 abbrev pub Words : List ℕ → Type 0
 Words ws = Each (λ w. w < 256 ^ 4) ws
 

@@ -1,4 +1,4 @@
-// TRANSFORM and POSITION contents. Floats are carried bit for bit, as u32 words: any bits will do, and none are computed with.
+// TRANSFORM and POSITION contents (rules 4.2 to 4.4). A float is a u32 word, the number that its bits spell; nothing is computed with it.
 ghost use mathlib.Core.Path.{_≡_};
 ghost use mathlib.Core.List.{[], _∷_, _++_};
 ghost use Prim.Native.Nat.{_*_, _≤_};
@@ -11,7 +11,7 @@ ghost use Rattle.pose.specs.Words.{wordBytes};
 ghost use Rattle.pose.specs.Transform.{transformFault, transformOf, transformWritten, transformOut};
 ghost use Rattle.pose.specs.Position.{wordsIn, positionFault, positionOf, countFault, positionWritten, positionOut};
 
-// The three columns of the rotation, each from its first row to its third, then TX TY TZ.
+// The three columns of the rotation, each from its first row to its third; the translation (rule 4.2).
 pub struct Transform {
     pub column1: [u32; 3],
     pub column2: [u32; 3],
@@ -19,13 +19,13 @@ pub struct Transform {
     pub translation: [u32; 3],
 }
 
-// Document 01's number, and the transform; all words are 0 where it is refused.
+// The number (rule 5.1), and the transform; all words are 0 where it is refused.
 pub struct TransformRead {
     pub number: u8,
     pub transform: Transform,
 }
 
-// Document 01's number, and 3, 6 or 7 words, with zeros past them; none where it is refused.
+// The number (rule 5.1), and 3, 6 or 7 words, with zeros past them; none where it is refused.
 pub struct PositionRead {
     pub number: u8,
     pub count: usize,
