@@ -1,3 +1,5 @@
+-- Children as three lists; the writer; the statements about it.
+
 pub mod Lists
 pub mod Writer
 pub mod BindWriters

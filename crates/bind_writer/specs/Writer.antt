@@ -1,4 +1,4 @@
--- The writer of a BIND content: its checks in document 01's order, its answer, and the buffer that it leaves.
+-- The writer of a BIND content: its checks in order (rules 5.4, 5.8 and 5.10), its answer, and the buffer that it leaves.
 use Prim.Native.Nat.{ℕ}
 use mathlib.Core.Bool.{Bool, cond, _&&_}
 use mathlib.Core.List.{List}

@@ -1,5 +1,5 @@
--- Look-ups by name in two bundles: the child of that name from the site's bundle, else from the default one, and which of them it is.
--- The site's fault comes first, then the default's; then 19.
+-- Look-ups by name in two bundles (rule 6.2): where the child stands in the site's bundle or, if that has no such child, in the default
+-- one, and in which of the two. The site's bundle is judged first, then the default one; then comes 19 (rule 5.5).
 use Prim.Native.Nat.{ℕ}
 use mathlib.Core.Bool.{cond}
 use mathlib.Core.List.{List, []}

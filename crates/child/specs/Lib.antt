@@ -1,3 +1,5 @@
+-- Look-ups in one bundle; look-ups in two; the statements about both.
+
 pub mod Lookup
 pub mod Either
 pub mod Lookups

@@ -1,5 +1,5 @@
--- Look-ups in a BIND content, for any bytes: where a child stands, and document 01's answers. They answer first as the reader would for
--- the content; then 19. A refused look-up hands back an empty part.
+-- Look-ups in a BIND content (rule 6.1), for any bytes: where a child stands, and the answers. The content is judged first; then comes 19
+-- (rule 5.5). The part that a refusal returns has no bytes (rule 5.6).
 use Prim.Native.Nat.{ℕ, zero, suc, _-_, _*_}
 use mathlib.Core.Bool.{cond}
 use mathlib.Core.List.{List, []}
@@ -29,7 +29,7 @@ unfoldable pub dataFrom : ℕ → List ℕ → List ℕ → List ℕ
 dataFrom zero h d = d
 dataFrom (suc j) h d = dataFrom j (drop 20 h) (afterBlock (sizeOf h) d)
 
--- the number of the first of k names that is x, or k where none is: a look-up finds the first
+-- the number of the first of k names that is x, or k where none is (rule 4.13)
 unfoldable pub indexIn : ℕ → List ℕ → List ℕ → ℕ
 indexIn zero t x = 0
 indexIn (suc k) t x = cond (same (textOf t) x) 0 (suc (indexIn k (pastText t) x))

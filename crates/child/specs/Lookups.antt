@@ -62,7 +62,7 @@ pub record Lookups : Type 0 where
   pub refused : (s : List ℕ) (n : ℕ) → (bindFault deepest s ≡ 0 → ⊥) → placeOf s n ≡ record { number = bindFault deepest s; at = 0; len = 0 }
   pub refused-named : (s x : List ℕ) → (bindFault deepest s ≡ 0 → ⊥) → namedPlace s x ≡ record { number = bindFault deepest s; at = 0; len = 0 }
   pub refused-count : (s : List ℕ) → (bindFault deepest s ≡ 0 → ⊥) → countOf s ≡ record { number = bindFault deepest s; count = 0 }
-  -- a refused look-up hands back an empty part
+  -- the part that a refusal returns has no bytes (rule 5.6)
   pub empty : (s : List ℕ) (n : ℕ) → (placeOf s n .number ≡ 0 → ⊥) → (partAt (placeOf s n) s ≡ []) × (typeAt s n ≡ []) × (nameAt s n ≡ [])
   pub empty-named : (s x : List ℕ) → (namedPlace s x .number ≡ 0 → ⊥) → partAt (namedPlace s x) s ≡ []
 
@@ -77,5 +77,5 @@ pub record EitherLookups : Type 0 where
   pub site-fault : (a b x : List ℕ) → (bindFault deepest a ≡ 0 → ⊥) → eitherPlace a b x ≡ record { number = bindFault deepest a; source = Neither; at = 0; len = 0 }
   pub default-fault : (a b x : List ℕ) → bindFault deepest a ≡ 0 → (bindFault deepest b ≡ 0 → ⊥)
       → eitherPlace a b x ≡ record { number = bindFault deepest b; source = Neither; at = 0; len = 0 }
-  -- a refused look-up hands back an empty part, of neither
+  -- a refusal is of neither bundle, and its part has no bytes (rule 5.6)
   pub empty : (a b x : List ℕ) → (eitherPlace a b x .number ≡ 0 → ⊥) → (eitherPlace a b x .source ≡ Neither) × (eitherPart (eitherPlace a b x) a b ≡ [])

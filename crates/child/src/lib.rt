@@ -1,19 +1,19 @@
-// Look-ups of a BIND's children, by number and by name, in one bundle and in two. Each call checks a bundle once, to its innermost
-// children, and answers its fault before its own. A part that is handed back lies in the lent content; an empty child looks like a
-// refusal there, so ask the number first.
+// Look-ups of a BIND's children, by number and by name, in one bundle and in two (rules 6.1 and 6.2). Each call checks a bundle once, to
+// its innermost children, and answers its fault before its own. A part that is handed back lies in the lent content; an empty child looks
+// like a refusal there, so ask the number first.
 mod walk;
 
 ghost use mathlib.Core.Path.{_≡_};
 ghost use Rattle.child.specs.Lookup.{countOf, childNumber, placeIn, placeOf, namedPlace, partAt, typeAt, nameAt};
 ghost use Rattle.child.specs.Either.{eitherFault, sourced, eitherPlace, eitherPart};
 
-// Document 01's number, and how many children there are: 0 where refused.
+// The number (rule 5.1), and how many children there are: 0 where refused.
 pub struct ChildCount {
     pub number: u8,
     pub count: usize,
 }
 
-// Document 01's number, and where a child's data stands in the content and how long it is: both 0 where refused.
+// The number (rule 5.1), and where a child's data stands in the content and how long it is: both 0 where refused.
 pub struct Place {
     pub number: u8,
     pub at: usize,

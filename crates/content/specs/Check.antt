@@ -1,5 +1,5 @@
--- Document 01's number for a content, by its type: 8 for a TRANSFORM or a POSITION, 9 for an IMAGE, 10 for a BIND's layout, 11 for a BIND
--- below level 4, 0 for none.
+-- The number (rule 5.1) for a content, by its type: 8 for a TRANSFORM or a POSITION, 9 for an IMAGE, 10 for a BIND's layout, 11 for a BIND
+-- of level 5, 0 for none.
 use Prim.Native.Nat.{ℕ, zero, suc}
 use mathlib.Core.List.{List}
 use lib.ListN.{take, drop}
@@ -26,7 +26,7 @@ childrenFault bind zero h d = 0
 childrenFault bind (suc k) h d =
     orElse (kindFault bind (kindOf (typeOf h)) (take (sizeOf h) d)) (childrenFault bind k (drop 20 h) (afterBlock (sizeOf h) d))
 
--- a BIND where so many levels are left: 11 before anything else of it, then its own layout, then its children in order
+-- a BIND where so many levels are left (rule 5.4): 11 where none is, whatever its bytes; else its layout, then its children in order
 unfoldable pub bindFault : ℕ → List ℕ → ℕ
 bindFault zero s = 11
 bindFault (suc levels) s = orElse (layoutFault s) (childrenFault (bindFault levels) (count s) (headers s) (dataOf s))
@@ -35,7 +35,7 @@ bindFault (suc levels) s = orElse (layoutFault s) (childrenFault (bindFault leve
 unfoldable pub contentFault : ℕ → List ℕ → List ℕ → ℕ
 contentFault levels t s = kindFault (bindFault levels) (kindOf t) s
 
--- the outermost BIND is level 1, and level 4 is the deepest
+-- how many levels of BIND there may be (rule 4.15)
 abbrev pub deepest : ℕ
 deepest = 4
 

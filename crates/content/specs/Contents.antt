@@ -1,5 +1,5 @@
 -- What is proved of contents: one is accepted exactly when some well formed content of its type is written as these bytes, only one is,
--- and a BIND's faults come in document 01's order.
+-- and a BIND's faults come in the order of rule 5.4.
 use Prim.Native.Nat.{ℕ, suc}
 use mathlib.Core.Path.{_≡_}
 use mathlib.Core.List.{List, [], _∷_}

@@ -1,4 +1,4 @@
--- Examples of document 01: its borders P7 and P8, and the levels of BIND.
+-- Cases P7 and P8 of rule 8.1, and the levels of BIND (rule 4.15).
 use Prim.Native.Nat.{ℕ}
 use mathlib.Core.Path.{_≡_}
 use mathlib.Core.List.{List, [], _∷_}
@@ -20,17 +20,17 @@ abbrev pub within : List ℕ → List ℕ
 within s = oneChild bindText [] s
 
 pub record Examples : Type 0 where
-  -- P7, and P8: one child TRANSFORM named "A", named "AB"
+  -- P7; P8 with the names A and AB; a TRANSFORM of one byte less
   pub p7 : bindFault deepest noChildren ≡ 0
   pub p8-length : length (oneChild transformText (65 ∷ []) (replicate 48 0)) ≡ 74
   pub p8 : bindFault deepest (oneChild transformText (65 ∷ []) (replicate 48 0)) ≡ 0
   pub p8-longer-length : length (oneChild transformText (65 ∷ 66 ∷ []) (replicate 48 0)) ≡ 76
   pub p8-longer : bindFault deepest (oneChild transformText (65 ∷ 66 ∷ []) (replicate 48 0)) ≡ 0
   pub short-transform : bindFault deepest (oneChild transformText (65 ∷ []) (replicate 47 0)) ≡ 8
-  -- byte by byte: N_CHILD; CTYPE "T" and CSIZE; NAME_TABLE_SIZE; the table, name "N"; the data and their pad
+  -- byte by byte: one child with type T, name N and the data 07
   pub bytes : oneChild (84 ∷ []) (78 ∷ []) (7 ∷ [])
       ≡ 0 ∷ 1 ∷ 84 ∷ 0 ∷ 0 ∷ 0 ∷ 0 ∷ 0 ∷ 0 ∷ 0 ∷ 0 ∷ 0 ∷ 0 ∷ 0 ∷ 0 ∷ 0 ∷ 0 ∷ 0 ∷ 0 ∷ 0 ∷ 0 ∷ 1 ∷ 0 ∷ 2 ∷ 78 ∷ 0 ∷ 7 ∷ 0 ∷ []
-  -- level 4 is the deepest
+  -- a BIND of level 4, one of level 5, and bytes that are no BIND's at these two levels
   pub level-4 : bindFault deepest (within (within (within noChildren))) ≡ 0
   pub level-5 : bindFault deepest (within (within (within (within noChildren)))) ≡ 11
   pub level-5-any-bytes : bindFault deepest (within (within (within (within (1 ∷ []))))) ≡ 11

@@ -1,4 +1,4 @@
--- A content as document 01 describes it, a BIND to its innermost children, and the bytes that it is written as. Nothing here reads bytes.
+-- A content (rules 4.1 to 4.15), a BIND to its innermost children, and the bytes that it is written as. Nothing here reads bytes.
 use Prim.Native.Nat.{ℕ, zero, suc}
 use mathlib.Core.Path.{_≡_}
 use mathlib.Core.List.{List, [], _∷_}
@@ -45,14 +45,14 @@ unfoldable mutual
   childList none = []
   childList (more name x cs) = record { typeText = typeText x; name = name; content = encode x } ∷ childList cs
 
--- a type that document 01 leaves to others
+-- a type that has no rule (rule 4.1)
 pub record Opaque (t : List ℕ) : Type 0 where
   pub no-transform : t ≡ transformText → ⊥
   pub no-position : t ≡ positionText → ⊥
   pub no-image : t ≡ imageText → ⊥
   pub no-bind : t ≡ bindText → ⊥
 
--- what document 01 asks of a content where so many levels of BIND are left: each follows its type's rules, and a BIND takes a level
+-- what the rules ask of a content where so many levels of BIND are left: it keeps that of its type, and a BIND takes a level (rule 4.15)
 unfoldable mutual
   pub WellFormed : Content → ℕ → Type 0
   WellFormed (transform ws) levels = WellTransform ws

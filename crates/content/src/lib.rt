@@ -1,9 +1,9 @@
-// Contents, judged by their type: one dispatch, and BINDs to their innermost children.
+// Contents, judged by their type (rule 4.1): one dispatch, and BINDs to their innermost children (rule 4.14).
 ghost use mathlib.Core.Path.{_≡_};
 ghost use Rattle.content.specs.Kinds.{kindOf};
 ghost use Rattle.content.specs.Check.{contentFault, bindFault, deepest, nestedLevels};
 
-// The types whose contents are ruled; any other type's content is opaque.
+// The types that have a rule; the content of any other type is opaque (rule 4.1).
 enum Kind {
     Transform,
     Position,
@@ -31,7 +31,7 @@ fn kind_of(type_text: &[u8]) -> Kind
     Kind::Other
 }
 
-// The check of a content and the check of a BIND call on each other. The measure is twice the levels left and twice the bytes left, and
+// The check of a content and the check of a BIND call each other (rule 9.1). The measure is twice the levels left and twice the bytes left, and
 // one more here, as this function hands on both as they are. A BIND hands a child one level less, and fewer bytes: its own four bytes of
 // counts are not part of any child.
 fn check_content(type_text: &[u8], content: &[u8], levels: u32) -> u8
@@ -79,7 +79,7 @@ fn check_bind(content: &[u8], levels: u32) -> u8
     0
 }
 
-// Document 01's number for a content of the type with this text, lent by itself: a BIND is level 1.
+// The number (rule 5.1) for a content of the type with this text; a BIND is level 1 (rule 4.15).
 pub fn content_number(type_text: &[u8], content: &[u8]) -> u8
     ensures { λ r. ⌜ r ≡ contentFault deepest (now («type_text» .entry)) (now (content .entry)) ⌝ }
 {
@@ -93,7 +93,7 @@ pub fn nested_number(type_text: &[u8], content: &[u8]) -> u8
     check_content(type_text, content, 3)
 }
 
-// Document 01's number for a BIND content lent by itself.
+// The number for a BIND content of level 1.
 pub fn bind_number(content: &[u8]) -> u8
     ensures { λ r. ⌜ r ≡ bindFault deepest (now (content .entry)) ⌝ }
 {

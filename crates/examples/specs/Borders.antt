@@ -1,4 +1,4 @@
--- The borders that document 01 marks P, with the sentences that follow them, as one table: of the definitions that the contracts cite.
+-- The cases of rule 8.1 as one table, of the definitions that the contracts cite.
 use Prim.Native.Nat.{ℕ, _^_, _<_, _≤_}
 use mathlib.Core.Path.{_≡_}
 use mathlib.Core.List.{List, [], _∷_, _++_}
@@ -25,7 +25,7 @@ use Rattle.panel.specs.Examples.{FromArm, armCalls, looked}
 abbrev pub bindOfTransform : List ℕ → List ℕ
 bindOfTransform name = oneChild transformText name (replicate 48 0)
 
--- an IMAGE with T 3, S 5, these RI, DI and DRI, DRJ 2, DRK 1, and pixels of 24 bytes
+-- an IMAGE of three components and scalars of two bytes, with these RI, DI and DRI, and pixels of 24 bytes
 abbrev pub imageOfBorder : ℕ → ℕ → ℕ → List ℕ
 imageOfBorder ri di dri = image.content (image.header 5 ri di dri) 24
 
@@ -36,31 +36,31 @@ callsOfP12 m = armCalls m ++ (look 0 1700 ∷ look 0 1701 ∷ look 0 1199 ∷ li
 -- ---- the table
 
 pub record Borders : Type 0 where
-  -- the CRC of no bytes, of 01, of 02
+  -- the CRC: of no byte, of 01, of 02
   pub p1 : crcOf [] ≡ 0
   pub p2 : crcOf (0x01 ∷ []) ≡ 0x42F0E1EBA9EA3693
   pub p3 : crcOf (0x02 ∷ []) ≡ 0x85E1C3D753D46D26
-  -- 57 bytes: 1, and no step
+  -- any 57 bytes
   pub p4 : (s : List ℕ) → length s ≡ 57 → readOf s ≡ message.refused 1 0
-  -- V 2, TYPE GET_STATUS, body 12, both sizes 12 and 0, for every device name, time stamp and MSG_ID: accepted, step 70, empty content
+  -- GET_STATUS in V 2 with a body of 12 bytes, for every device name, time stamp and MSG_ID
   pub p5 : (name : List ℕ) (stamp id : ℕ) → Text name → length name ≤ 20 → stamp < 256 ^ 8 → id < 256 ^ 4
       → let s = ofVersion2 getStatusText name stamp (body12 id) in
       (readOf s .number ≡ 0) × (readOf s .step ≡ 70) × (contentIn s (readOf s) ≡ [])
-  -- V 2, any body of 11 bytes with its CRC: 6, and the step past it
+  -- V 2, any body of 11 bytes with its CRC; the step leads past it
   pub p6 : (type name : List ℕ) (stamp : ℕ) (body : List ℕ) → Text type → length type ≤ 12 → Text name → length name ≤ 20
       → stamp < 256 ^ 8 → Bytes body → length body ≡ 11 → readOf (ofVersion2 type name stamp body) ≡ message.refused 6 69
-  -- BIND content 00 00 00 00: accepted
+  -- a BIND without children
   pub p7 : bindFault deepest (0 ∷ 0 ∷ 0 ∷ 0 ∷ []) ≡ 0
-  -- one child TRANSFORM named "A": 74 bytes; named "AB": 76
+  -- a BIND of one TRANSFORM, with the name A and with the name AB
   pub p8-a : (length (bindOfTransform (65 ∷ [])) ≡ 74) × (bindFault deepest (bindOfTransform (65 ∷ [])) ≡ 0)
   pub p8-ab : (length (bindOfTransform (65 ∷ 66 ∷ [])) ≡ 76) × (bindFault deepest (bindOfTransform (65 ∷ 66 ∷ [])) ≡ 0)
-  -- IMAGE T 3, S 5, 2 x 2 x 1: 96 bytes. RI 3, DI 1, DRI 2 passes; RI 2 is 9
+  -- an IMAGE of four pixels; with a part that begins at 1, which is inside a size of 3 and not inside a size of 2
   pub p9 : (length (imageOfBorder 2 0 2) ≡ 96) × (imageFault (imageOfBorder 2 0 2) ≡ 0)
   pub p9-inside : imageFault (imageOfBorder 3 1 2) ≡ 0
   pub p9-outside : imageFault (imageOfBorder 2 1 2) ≡ 9
-  -- Add Arm, TRANSFORM, 500; link up 1000; message 1200, any TRANSFORM from Arm. Look 1700: green, 500; look 1701: grey, 501; look 1199: 15
+  -- a tile for Arm with a hold time of 500, and any TRANSFORM message from Arm: a look at that age, one later, one before the message
   pub p10 : (m : Message) → FromArm m → looked (armCalls m) 1700 ≡ green 500 (valueFor m)
   pub p11 : (m : Message) → FromArm m → looked (armCalls m) 1701 ≡ grey 501 (valueFor m)
   pub p11-earlier : (m : Message) → FromArm m → looked (armCalls m) 1199 ≡ refused 15
-  -- then link up 1400; look 1400: grey, 200
+  -- after a new link
   pub p12 : (m : Message) → FromArm m → looked (callsOfP12 m) 1400 ≡ grey 200 (valueFor m)

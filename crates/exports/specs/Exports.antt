@@ -41,7 +41,7 @@ answerCode (Grey a) = 4
 answerCode (Refused n) = 5
 answerCode NoCall = 6
 
--- the number that goes with it: a tile's, an age, or document 01's
+-- the number that goes with it: a tile's, an age, or that of a refusal (rule 5.1)
 abbrev pub carriedNumber : CallAnswer → ℕ
 carriedNumber Accepted = 0
 carriedNumber (Added i) = i

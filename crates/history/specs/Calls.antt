@@ -1,4 +1,4 @@
--- The calls on a panel, with whatever bytes, clocks and numbers they carry, and what they answer in document 01's words.
+-- The calls on a panel, with whatever bytes, clocks and numbers they carry, and what they answer.
 use Prim.Native.Nat.{ℕ, _-_, _≤_}
 use mathlib.Core.Path.{_≡_}
 use mathlib.Core.List.{List, _++_}
@@ -20,7 +20,7 @@ OfBytes (linkDown t) = Unit {0}
 OfBytes (message t s) = Bytes s
 OfBytes (look i t) = Unit {0}
 
--- refused with a number; accepted, as a link call or a message that counts; added, with the tile's number; and the three cases of a look,
+-- refused with a number; accepted, as a link call or a message that counts (rule 7.5); added, with the tile's number; and the three cases of a look,
 -- green and grey with the age and the value
 pub data Answer : Type 0 where
   refused : (number : ℕ) → Answer
@@ -40,7 +40,7 @@ pub record Padded (bytes : List ℕ) (len : ℕ) : Type 0 where
   pub fits : len ≤ 48
   pub zeros : bytes ≡ valueBytes bytes len ++ replicate (48 - len) 0
 
--- document 01's number of each answer
+-- the number of each answer (rule 5.1)
 abbrev pub answerNumber : Answer → ℕ
 answerNumber (refused n) = n
 answerNumber accepted = 0

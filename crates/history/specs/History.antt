@@ -1,4 +1,4 @@
--- The words of demand 3, said of a sequence of calls. A call's place is its number in the sequence, from 0; the book that it meets is that
+-- What rules 1.7, 1.8 and 7.9 say of a sequence of calls. A call's place is its number in the sequence, from 0; the book that it meets is that
 -- of the calls before it.
 use Prim.Native.Nat.{ℕ, _-_, _<_, _≤_}
 use mathlib.Core.Path.{_≡_}
@@ -48,8 +48,8 @@ module _ (R : Reader) where
   abbrev pub summaryBefore : List Call → ℕ → Summary
   summaryBefore cs k = summaryOf R (take k cs)
 
-  -- the call c, where the book is b, is the message m with that clock; it counts, and the book has a tile i whose name and type it carries,
-  -- so it comes after the adding
+  -- the call c, where the book is b, is the message m with that clock; it counts, and the book already has a tile i of its name and type
+  -- (rule 7.9)
   pub record CountsFor (b : Summary) (c : Call) (i clock : ℕ) (m : Message) : Type 0 where
     pub well : WellFormed m
     pub is : c ≡ message clock (encode m)
@@ -70,7 +70,7 @@ module _ (R : Reader) where
   abbrev pub NoLinkAfter : List Call → ℕ → Type 0
   NoLinkAfter cs k = (j : ℕ) → k < j → j < length cs → LinkCall (summaryBefore cs j) (callAt cs j) → ⊥
 
-  -- demand 3's condition for green
+  -- the condition for green (rule 1.7)
   pub record Current (cs : List Call) (i now : ℕ) : Type 0 where
     pub place : ℕ
     pub clock : ℕ

@@ -1,4 +1,4 @@
--- Demand 3's side of the calls: what they say, never what the panel makes of them. Nothing is proved here.
+-- The calls; what their bytes are; the book; the history of a sequence of calls; examples. No definition speaks of a panel.
 
 pub mod Calls
 pub mod Reading

@@ -1,5 +1,5 @@
--- Document 01's book: the tiles, the link and the clock that the calls so far amount to, worked out from their arguments alone. It keeps
--- neither values nor colours.
+-- The book (rule 7.8): the tiles, the link and the clock that the calls so far amount to. It is computed from the calls and not from the
+-- panel, and keeps neither values nor colours.
 use Prim.Native.Nat.{ℕ, zero, suc}
 use mathlib.Core.Bool.{Bool, true, false, cond, _&&_, _||_}
 use mathlib.Core.List.{List, [], _∷_, _++_, foldl}
@@ -16,7 +16,7 @@ use Rattle.message.specs.Message.{Message}
 use Rattle.history.specs.Calls.{Call, add, linkUp, linkDown, message, look}
 use Rattle.history.specs.Reading.{Reading, noMessage, leftOver, oneMessage, Reader}
 
--- a tile as the book has it. Its hold time is how many milliseconds old a message may be that makes it green
+-- a tile as the book has it. Its hold time is how many milliseconds old a message may be that makes it green (rules 1.7 and 7.3)
 pub record Entry : Type 0 where
   pub typeText : List ℕ
   pub name : List ℕ
@@ -60,15 +60,15 @@ carries m e = isOf (typeText (m .content)) (m .deviceName) e
 
 -- ---- the checks
 
--- type the text TRANSFORM or POSITION
+-- a type that a tile may have (rule 7.3)
 abbrev pub isPose : List ℕ → Bool
 isPose t = same t transformText || same t positionText
 
--- name 1 to 20 bytes of 1 to 127
+-- a name that a tile may have (rule 7.3)
 abbrev pub isTileName : List ℕ → Bool
 isTileName n = leb 1 (length n) && (leb (length n) 20 && isText n)
 
--- hold time 1 to 60,000 ms
+-- a hold time that a tile may have (rule 7.3)
 abbrev pub isHoldTime : ℕ → Bool
 isHoldTime h = leb 1 h && leb h 60000
 
@@ -83,18 +83,18 @@ allowedFault t n h = cond (isAllowed t n h) 0 16
 unfoldable pub clockFault : ℕ → ℕ → ℕ
 clockFault clock given = cond (ltb given clock) 15 0
 
--- sixteen tiles already
+-- there is no place for a further tile
 abbrev pub isFull : List Entry → Bool
 isFull es = leb 16 (length es)
 
--- the reader's number, 12, 13
+-- the reader's number, then 12, then 13 (rule 7.5)
 abbrev pub readingNumber : List Entry → Reading → ℕ
 readingNumber es (noMessage n) = n
 readingNumber es leftOver = 12
 readingNumber es (oneMessage m) = cond (any (carries m) es) 0 13
 
 module _ (R : Reader) where
-  -- the number that a call gets by its checks, made on the book; 0 where it is accepted, or counts
+  -- the number that a call's checks on the book give (rules 7.3 to 7.7). 0 means that it is accepted; a message then counts
   abbrev pub numberOn : Summary → Call → ℕ
   numberOn b (add t n h) = orElse (allowedFault t n h) (orElse (cond (any (isOf t n) (b .tiles)) 17 0) (cond (isFull (b .tiles)) 18 0))
   numberOn b (linkUp t) = clockFault (b .clock) t

@@ -1,4 +1,4 @@
--- The borders P4 to P6; the body by computation.
+-- Cases P4 to P6; the body by computation.
 use Prim.Native.Nat.{ℕ, _+_, _^_, _<_, _≤_}
 use mathlib.Core.Path.{_≡_, refl, ap, _∙_}
 use mathlib.Core.Logic.{inl, inr}
@@ -27,7 +27,7 @@ use Rattle.message.specs.Examples.{ofVersion2, getStatusText, body12, Ac
 use Rattle.message.proofs.Laws.Messages.{demand-2}
 use Rattle.message.proofs.Laws.Numbers.{refusals}
 
--- a header of version 2 for a body
+-- a header of V 2 for a body
 abbrev headerOfVersion2 : List ℕ → List ℕ → ℕ → List ℕ → Header
 headerOfVersion2 t n stamp b =
     record { version = 2; typeText = t; deviceName = n; timeStamp = stamp; bodySize = length b; crc = crcOf b }

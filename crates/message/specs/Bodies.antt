@@ -14,7 +14,7 @@ use Rattle.message.specs.Check.{bodyFault, sectionsOf}
 abbrev pub IsVersion : ℕ → Type 0
 IsVersion version = (version ≡ 1) ⊎ (version ≡ 2)
 
--- check 6: the body under 12, EXT_HEADER_SIZE under 12, the reserved word not 0, or the two sizes together above BODY_SIZE
+-- what breaks rule 3.6: a body or an EXT_HEADER_SIZE below 12, a reserved word that is set, sizes that exceed the body
 abbrev pub BreaksExtended : List ℕ → Type 0
 BreaksExtended b =
     (length b < 12)

@@ -1,4 +1,4 @@
--- The body of a message as document 01 lays it out, its content and metadata being bytes here. Nothing here reads bytes.
+-- The body of a message (rules 3.5 to 3.7), its content and metadata being bytes here. Nothing here reads bytes.
 use Prim.Native.Nat.{ℕ, _+_, _^_, _<_}
 use mathlib.Core.Path.{_≡_}
 use mathlib.Core.Logic.{_⊎_}
@@ -17,7 +17,7 @@ pub record Sections : Type 0 where
   pub content : List ℕ
   pub metadata : List ℕ
 
--- EXT_HEADER_SIZE 2, METADATA_SIZE 2, MSG_ID 4, reserved 4, then the further bytes; content; metadata
+-- the fields of the extended header, in the order of rule 3.6, and behind them the content and the metadata
 abbrev pub extendedFields : Sections → List (List ℕ)
 extendedFields x =
     beBytes 2 (12 + length (x .further))
@@ -29,7 +29,7 @@ extendedFields x =
     ∷ x .metadata
     ∷ []
 
--- V 2: all of these. V 1: the body is the content
+-- V 2: all of these. V 1: the content alone
 unfoldable pub encodeBody : ℕ → Sections → List ℕ
 encodeBody version x = cond (eqb version 2) (join (extendedFields x)) (x .content)
 

@@ -1,4 +1,4 @@
--- What the reader answers to the front of a byte stream, for any bytes: document 01's number, the step, and where the message's parts stand.
+-- What the reader answers to the front of a byte stream, for any bytes: the number, the step, and where the message's parts stand.
 use Prim.Native.Nat.{ℕ, _+_, _-_}
 use mathlib.Core.Bool.{Bool, cond, _&&_, _||_}
 use mathlib.Core.List.{List}
@@ -27,7 +27,7 @@ extendedSize b = beAt 2 0 b
 abbrev pub metadataSize : List ℕ → ℕ
 metadataSize b = beAt 2 2 b
 
--- check 6, of V 2: a body of 12 bytes, EXT_HEADER_SIZE at least 12, the reserved word 0, and both sizes within BODY_SIZE
+-- check 6, of V 2: the twelve bytes are there, EXT_HEADER_SIZE includes them, the reserved word is 0, and the sizes do not exceed the body
 unfoldable pub extendedOk : List ℕ → Bool
 extendedOk b =
     leb 12 (length b)
@@ -38,7 +38,7 @@ extendedOk b =
 unfoldable pub bodyFault : ℕ → List ℕ → ℕ
 bodyFault version b = cond (eqb version 2) (cond (extendedOk b) 0 6) 0
 
--- where the sections stand in the body: the content has BODY_SIZE - EXT_HEADER_SIZE - METADATA_SIZE bytes
+-- where the sections stand in the body: the content is what the other two leave (rule 3.7)
 abbrev pub extendedPlaces : List ℕ → Places
 extendedPlaces b =
     record {
@@ -51,7 +51,7 @@ extendedPlaces b =
       «metadata_len» = metadataSize b;
     }
 
--- V 1: the body is the content
+-- V 1: all of the body is content
 abbrev pub plainPlaces : List ℕ → Places
 plainPlaces b =
     record {
@@ -82,7 +82,7 @@ sectionsOf version b = sectionsAt (placesOf version b) b
 
 -- ---- the checks in order
 
--- check 1 of the whole: fewer bytes than 58 + BODY_SIZE
+-- check 1 of the whole: the rest of the message has not arrived
 unfoldable pub wholeFault : List ℕ → ℕ
 wholeFault s = cond (leb (58 + headerOf s .bodySize) (length s)) 0 1
 
@@ -115,7 +115,7 @@ frontFault s = orElse (headerFault s) (wholeFault s)
 unfoldable pub numberOf : List ℕ → ℕ
 numberOf s = orElse (frontFault s) (bodyChecks (headerOf s .version) (headerOf s .crc) (headerOf s .typeText) (bodyAt s))
 
--- document 01's step: 0 with 1, 2 and 3, otherwise 58 + BODY_SIZE
+-- the step (rule 5.3): the length of the message, but 0 where the number is 1, 2 or 3
 unfoldable pub stepOf : List ℕ → ℕ
 stepOf s = cond (eqb (frontFault s) 0) (58 + headerOf s .bodySize) 0
 

@@ -1,5 +1,5 @@
--- Demand 2: the reader accepts the front of a byte stream exactly when some message is those bytes. That message is the only one, and it is
--- what is handed out. Given room, the writer writes it back byte for byte.
+-- Rules 1.4 to 1.6: the reader accepts a stream exactly when it starts with the encoding of a message. That message is the only one, and
+-- it is what is handed out. Given room, the writer writes it back byte for byte.
 use Prim.Native.Nat.{ℕ, _+_, _≤_}
 use mathlib.Core.Path.{_≡_}
 use mathlib.Core.List.{List, _++_}

@@ -1,4 +1,4 @@
--- Examples of document 01: its borders P4 to P6, and a body byte by byte.
+-- Cases P4 to P6 of rule 8.1, and a body byte by byte.
 use Prim.Native.Nat.{ℕ, _^_, _<_, _≤_}
 use mathlib.Core.Path.{_≡_}
 use mathlib.Core.List.{List, [], _∷_, _++_}
@@ -11,7 +11,7 @@ use Rattle.crc64.specs.Crc.{crcOf}
 use Rattle.message.specs.Body.{Sections, encodeBody}
 use Rattle.message.specs.Check.{refused, readOf, contentIn}
 
--- a message of version 2 with this type, name, stamp and body, and the body's CRC
+-- a message of V 2 with this type, name, stamp and body, and the body's CRC
 abbrev pub ofVersion2 : List ℕ → List ℕ → ℕ → List ℕ → List ℕ
 ofVersion2 t n stamp b =
     join
@@ -28,7 +28,7 @@ ofVersion2 t n stamp b =
 abbrev pub getStatusText : List ℕ
 getStatusText = 71 ∷ 69 ∷ 84 ∷ 95 ∷ 83 ∷ 84 ∷ 65 ∷ 84 ∷ 85 ∷ 83 ∷ []
 
--- both sizes 12 and 0, a MSG_ID, the reserved word
+-- the sizes 12 and 0, a MSG_ID, the reserved word
 abbrev pub body12 : ℕ → List ℕ
 body12 id = 0 ∷ 12 ∷ 0 ∷ 0 ∷ (beBytes 4 id ++ (0 ∷ 0 ∷ 0 ∷ 0 ∷ []))
 
@@ -47,8 +47,8 @@ pub record Examples : Type 0 where
   -- P5: for every name, stamp and id
   pub p5 : (n : List ℕ) (stamp id : ℕ) → Text n → length n ≤ 20 → stamp < 256 ^ 8 → id < 256 ^ 4
       → Accepted70 (ofVersion2 getStatusText n stamp (body12 id))
-  -- P6: body 11 with its CRC, for every type, name, stamp and body
+  -- P6: a body of 11 bytes with the right CRC, for every type, name, stamp and body
   pub p6 : (t n : List ℕ) (stamp : ℕ) (b : List ℕ) → Text t → length t ≤ 12 → Text n → length n ≤ 20 → stamp < 256 ^ 8 → Bytes b → length b ≡ 11
       → readOf (ofVersion2 t n stamp b) ≡ refused 6 69
-  -- a body of V 2 byte by byte: EXT_HEADER_SIZE, METADATA_SIZE, MSG_ID, reserved; further bytes; content; metadata
+  -- a body of V 2 byte by byte: the extended header with its further byte, the content, the metadata
   pub body : encodeBody 2 sixToNine ≡ 0 ∷ 13 ∷ 0 ∷ 3 ∷ 0 ∷ 0 ∷ 0 ∷ 6 ∷ 0 ∷ 0 ∷ 0 ∷ 0 ∷ 7 ∷ 8 ∷ 8 ∷ 9 ∷ 9 ∷ 9 ∷ []

@@ -1,4 +1,4 @@
--- A message as document 01 describes it: its content a tree, its metadata a list of entries; and the bytes that it is written as. Nothing
+-- A message (section 3 of the rules): its content a tree, its metadata a list of entries; and the bytes that it is written as. Nothing
 -- here reads bytes.
 use Prim.Native.Nat.{ℕ, _^_, _<_, _≤_}
 use mathlib.Core.List.{List, _++_}
@@ -50,7 +50,7 @@ partsOf m =
 abbrev pub bodyOf : Parts → List ℕ
 bodyOf p = encodeBody (p .version) (p .sections)
 
--- BODY_SIZE is the body's length, and the CRC is of the whole body
+-- BODY_SIZE is the body's length, and CRC that of all its bytes (rule 3.4)
 abbrev pub headerFor : Parts → Header
 headerFor p =
     record {
@@ -68,7 +68,7 @@ encodeParts p = encodeHeader (headerFor p) ++ bodyOf p
 abbrev pub encode : Message → List ℕ
 encode m = encodeParts (partsOf m)
 
--- ---- what document 01 asks of a message
+-- ---- what the rules ask of a message
 
 pub record WellFormed (m : Message) : Type 0 where
   pub texts : WellTexts (typeText (m .content)) (m .deviceName)

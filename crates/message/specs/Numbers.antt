@@ -1,4 +1,4 @@
--- Document 01's number for each refusal of the reader and the writer, in its order, with the reader's step.
+-- The number of each refusal, in order: of the reader with its step (rules 5.2 and 5.3), and of the writer (rules 5.8 to 5.11).
 use Prim.Native.Nat.{ℕ, _+_, _^_, _<_, _≤_}
 use mathlib.Core.Path.{_≡_}
 use mathlib.Core.Logic.{_⊎_}
@@ -68,7 +68,7 @@ pub record Given (p : Parts) : Type 0 where
   pub further-bytes : Bytes (p .sections .further)
   pub body-fits : length (bodyOf p) < 256 ^ 8
 
--- check 6: V 1 with further bytes, metadata or a MSG_ID; V 2 with sections that don't fit their size fields
+-- what rule 5.9 refuses: in V 1 anything but the content, in V 2 a section longer than its size field can say
 abbrev pub Unfit : ℕ → Sections → Type 0
 Unfit version x = ((version ≡ 1) × (Plain x → ⊥)) ⊎ ((version ≡ 2) × ((256 ^ 2 ≤ 12 + length (x .further)) ⊎ (256 ^ 2 ≤ length (x .metadata))))
 

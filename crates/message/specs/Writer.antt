@@ -1,4 +1,4 @@
--- What the writer answers and leaves in the buffer, for any arguments: refusals in the reader's order by the reader's numbers, then 20.
+-- What the writer answers and leaves in the buffer, for any arguments. It checks as the reader does, and 20 last (rule 5.8).
 use Prim.Native.Nat.{ℕ, _+_}
 use mathlib.Core.Bool.{Bool, cond, _&&_}
 use mathlib.Core.List.{List}
@@ -27,11 +27,11 @@ given f typeText deviceName further content metadata =
       sections = sectionsGiven (f .id) further content metadata;
     }
 
--- for check 3 the body is 12, the further bytes, the content and the metadata together if V is 2, otherwise the content alone
+-- the length that check 3 of a writer compares with the limit (rule 5.11)
 abbrev pub bodyLength : ℕ → ℕ → ℕ → ℕ → ℕ
 bodyLength version further content metadata = cond (eqb version 2) (12 + further + content + metadata) content
 
--- check 6 of a writer, by MSG_ID and the lengths of the further bytes and the metadata: V 1 has none of them; of V 2 both sizes fit two bytes
+-- check 6 of a writer (rule 5.9), by MSG_ID and the lengths of the further bytes and the metadata: V 1 has none of them; of V 2 both sizes fit two bytes
 unfoldable pub fits : ℕ → ℕ → ℕ → ℕ → Bool
 fits version id further metadata =
     cond (eqb version 2)

@@ -1,4 +1,4 @@
-// The body of a message. For version 2 it is an extended header, further bytes, content and metadata; for version 1 it is the content.
+// The body of a message (rules 3.5 to 3.7). In V 2 it is an extended header, the content and the metadata; in V 1 it is the content.
 // Nothing else knows where the fields of the extended header stand.
 use fields::number::be16;
 use fields::number::be32;
@@ -25,7 +25,7 @@ pub struct Places {
     pub metadata_len: usize,
 }
 
-// Check 6 of a body of version 2. The two sizes are added in a wider type than theirs.
+// Check 6 of a body of V 2. The two sizes are added in a wider type than theirs.
 fn is_extended(body: &[u8]) -> bool
     ensures { λ r. ⌜ r ≡ extendedOk (now (body .entry)) ⌝ }
 {
@@ -42,7 +42,7 @@ fn is_extended(body: &[u8]) -> bool
     size + be16(body, 2) as usize <= body.len()
 }
 
-// Document 01's number for the layout of a body: 6, or 0 for none.
+// The number for the layout of a body: 6, or 0 for none.
 pub(crate) fn body_number(version: u16, body: &[u8]) -> u8
     ensures { λ r. ⌜ r ≡ bodyFault version (now (body .entry)) ⌝ }
 {
@@ -115,7 +115,7 @@ pub(crate) fn body_len(version: u16, further: usize, content: usize, metadata: u
     12 + further + content + metadata
 }
 
-// Check 6 of a writer: can a body of this version have such sections?
+// Check 6 of a writer (rule 5.9): can a body of this version have such sections?
 pub(crate) fn is_fit(version: u16, id: u32, further: usize, metadata: usize) -> bool
     ensures { λ r. ⌜ r ≡ fits version id further metadata ⌝ }
 {
@@ -134,7 +134,7 @@ pub(crate) fn is_fit(version: u16, id: u32, further: usize, metadata: usize) -> 
     metadata == 0
 }
 
-// Writes a body of version 2 to the front of a buffer.
+// Writes a body of V 2 to the front of a buffer.
 fn put_extended(id: u32, further: &[u8], content: &[u8], metadata: &[u8], out: &mut [u8])
     requires { ⌜ (12 + length (now further) ≤ 65535) × (length (now metadata) ≤ 65535) × (length (now content) ≤ limit) ⌝ }
     ensures { λ _. ⌜ now (out .exit) ≡ sets (now (out .entry)) 0 (join (extendedFields (sectionsGiven id (now (further .entry)) (now (content .entry)) (now (metadata .entry))))) ⌝ }

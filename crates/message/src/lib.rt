@@ -14,9 +14,9 @@ ghost use Rattle.message.specs.Message.{bodyOf, encodeParts};
 ghost use Rattle.message.specs.Check.{versionFault, bodyFault, bodyChecks, placesOf, refused, accepted, readOf, typeIn, nameIn, furtherIn, contentIn, metadataIn};
 ghost use Rattle.message.specs.Writer.{given, sectionsGiven, sectionsChecks, writeChecks, messageWritten, messageOut};
 
-// What the reader makes of the front of a stream: document 01's number, 0 for accepted, and its step, the length of the message, 0 where
-// that is not known. Then the message's fields; the places of its parts are relative to the slice that was read. All of these are 0 where
-// refused.
+// What the reader makes of the front of a stream: the number (rule 5.1), 0 for accepted, and the step (rule 5.3), which is the length of
+// the message, but 0 where the number is 1, 2 or 3. Then the message's fields; the places of its parts are relative to the slice that was
+// read. All of these are 0 where refused.
 pub struct Answer {
     pub number: u8,
     pub step: usize,

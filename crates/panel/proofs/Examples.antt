@@ -1,4 +1,4 @@
--- P10 to P12 of document 01.
+-- Cases P10 to P12, and the cable.
 use Prim.Native.Nat.{ℕ, _≤_}
 use mathlib.Core.Path.{_≡_, refl, ap, ap₂, _∙_}
 use mathlib.Core.Logic.{inl}

@@ -1,4 +1,4 @@
--- Document 01's words for the panel's answers: for each case its number and the values that it carries.
+-- The panel's answers as those of a call (rule 9.6): for each case its number and the values that it carries.
 use Prim.Native.Nat.{ℕ}
 use mathlib.Core.Bool.{cond}
 use lib.Dec.{eqb}

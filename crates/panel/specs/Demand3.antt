@@ -1,4 +1,4 @@
--- Demand 3: one claim about every sequence of calls, of the definitions that the contracts of `Panel` cite.
+-- Rules 1.7 to 1.9 and 7.10: one theorem about every sequence of calls, of the definitions that the contracts of `Panel` cite.
 use Prim.Native.Nat.{ℕ, _<_}
 use mathlib.Core.Path.{_≡_}
 use mathlib.Core.Bool.{true, false}
@@ -33,7 +33,7 @@ unfoldable pub panelAfter : List Call → Panel
 panelAfter cs = foldl panelNext freshPanel cs
 
 pub record Claim (R : Reader) (cs : List Call) : Type 0 where
-  -- every call in the sequence answers by its checks, made on the book of the calls before it; a look in it shows what their history says
+  -- every call in the sequence answers what its checks on the book of the calls before it say; a look shows what their history says
   pub inside : (k : ℕ) → k < length cs → Answers R (take k cs) (callAt cs k) (answerTo (panelAfter (take k cs)) (callAt cs k))
   -- so does a look after it
   pub after : (i now : ℕ) → Answers R cs (look i now) (answerTo (panelAfter cs) (look i now))
@@ -41,7 +41,7 @@ pub record Claim (R : Reader) (cs : List Call) : Type 0 where
   pub padded : (i now : ℕ) → Padded (lookOf (panelAfter cs) i now .value .bytes) (lookOf (panelAfter cs) i now .value .len)
 
 pub record Demand3 : Type 0 where
-  -- with any reader of demand 2; there is one, and any two agree on all bytes
+  -- with any reader (rule 1.4); there is one, and any two agree on all bytes
   pub readers : Readers
   pub claim : (R : Reader) (cs : List Call) → Each OfBytes cs → Claim R cs
   -- a refused call gives the panel back unchanged, and so does every look, for every panel

@@ -1,5 +1,4 @@
--- Examples of document 01: its borders P10 to P12, and a cable that comes loose and is put back, for every TRANSFORM message from the device
--- Arm.
+-- Cases P10 to P12 of rule 8.1, and a cable that comes loose and is put back, for every TRANSFORM message from the device Arm.
 use Prim.Native.Nat.{ℕ}
 use mathlib.Core.Path.{_≡_}
 use mathlib.Core.List.{List, [], _∷_, _++_}
@@ -19,7 +18,7 @@ pub record FromArm (m : Message) : Type 0 where
   pub is-transform : typeText (m .content) ≡ transformText
   pub is-arm : m .deviceName ≡ armText
 
--- add Arm, TRANSFORM, 500; link up 1000; message 1200
+-- the calls of P10 before its look
 abbrev pub armCalls : Message → List Call
 armCalls m = add transformText armText 500 ∷ linkUp 1000 ∷ message 1200 (encode m) ∷ []
 

@@ -1,4 +1,4 @@
--- What running a script gives: by the panel's definitions, and in the words of demand 3.
+-- What running a script gives: by the panel's definitions, and by the book and the history (rules 1.7 to 1.9 and 7.10).
 use Prim.Native.Nat.{ℕ, zero, suc, _<_, _≤_}
 use mathlib.Core.Path.{_≡_}
 use mathlib.Core.Bool.{true, false, cond}
@@ -73,9 +73,9 @@ answerAt s k = answerAmong k freshPanel (callsIn s)
 unfoldable pub lookAfter : List ℕ → ℕ → ℕ → Answered
 lookAfter s i now = afterLook (lookOf (panelAfter (callsIn s)) i now) .answered
 
--- ---- in the words of demand 3
+-- ---- by the book and the history
 
--- document 01's words for each answer, its number and values; none where there is no call
+-- each answer as that of a call (rule 9.6), with its number and values; none where there is no call
 abbrev pub saying : CallAnswer → List ℕ → Option Answer
 saying Accepted v = some accepted
 saying (Added i) v = some (added i)
@@ -85,7 +85,7 @@ saying (Grey a) v = some (grey a v)
 saying (Refused n) v = some (refused n)
 saying NoCall v = none
 
--- r says what the book and the history say of the call c after the calls cs, with any reader of demand 2; past its value's bytes are zeros,
+-- r says what the book and the history say of the call c after the calls cs, with any reader (rule 1.4); past its value's bytes are zeros,
 -- and a value goes with green and grey alone
 pub record Says (cs : List Call) (c : Call) (r : Answered) : Type 0 where
   pub answer : Answer

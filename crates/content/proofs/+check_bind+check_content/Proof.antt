@@ -1,5 +1,5 @@
--- The check of a content and the check of a BIND, which call on each other, meet their contracts. A call falls in twice the levels and the
--- bytes left: a BIND's children have one level less and, without its four bytes of counts, fewer bytes.
+-- The check of a content and the check of a BIND, which call each other, meet their contracts. What falls at each call is twice the levels
+-- left and twice the bytes left: a BIND's children have one level less and, without its four bytes of counts, fewer bytes.
 use mathlib.Core.Path.{_≡_, sym, ap, ap₂, _∙_}
 use mathlib.Core.List.{List}
 use Prim.Native.Nat.{ℕ, _+_, _-_, _%_, _<_, _≤_}

@@ -1,4 +1,4 @@
--- The faults of a content over a list of children, and document 01's order of them.
+-- The faults of a content over a list of children, and the order of them (rule 5.4).
 use mathlib.Core.Path.{_≡_, refl, sym, ap, _∙_}
 use mathlib.Core.List.{List, [], _∷_}
 use Prim.Native.Nat.{ℕ, zero, suc, _+_, _≤_, _<_}

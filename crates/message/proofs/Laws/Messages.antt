@@ -190,7 +190,7 @@ begun-written s out m b h =
     ∙ ap (λ (l : List ℕ). l ++ drop (length (encode m)) out) (sym (begun-take s m b))
     ∙ ap (λ (n : ℕ). take n s ++ drop n out) (sym (begun-step s m b))
 
--- ---- demand 2
+-- ---- rules 1.4 to 1.6
 
 pub demand-2 : Demand2
 demand-2 =

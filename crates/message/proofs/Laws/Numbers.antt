@@ -1,4 +1,4 @@
--- Which number the reader and the writer give, in document 01's order.
+-- Which number the reader and the writer give, in the order of their checks.
 use Prim.Native.Nat.{ℕ, zero, suc, _+_, _<_, _≤_}
 use mathlib.Core.Path.{_≡_, refl, sym, ap, ap₂, _∙_, subst}
 use mathlib.Core.Logic.{inl, inr, ⊎-elim}

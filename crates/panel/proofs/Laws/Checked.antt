@@ -51,7 +51,7 @@ module _ (p : Panel) (b : Summary) (T : Agrees p b) where
   pub next-free : freeIn (p .tiles) ≡ length (b .tiles)
   next-free = next-alike (p .tiles) (b .tiles) (λ i. place-used (T .places i))
 
-  -- the reader's number, 12, 13
+  -- the reader's number, then 12, then 13
   read-same : (s : List ℕ) (r : Reading) → Bytes s → Reads s r → readFault (p .tiles) s (readOf s) ≡ readingNumber (b .tiles) r
   read-same s r bs (none n) = read-refused (p .tiles) s (readOf s) (none-number s bs n) ∙ read-number s
   read-same s r bs (more m g h) = read-left-over (p .tiles) s (readOf s) (demand-2 .begun s m g) (omega (arith, more-step s m g h))

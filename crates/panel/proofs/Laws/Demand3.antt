@@ -1,4 +1,4 @@
--- Demand 3.
+-- The theorem of rules 1.7 to 1.9: every sequence of calls is answered as the book and the history say.
 use Prim.Native.Nat.{ℕ, zero, suc, _-_, _≤_}
 use mathlib.Core.Path.{_≡_, refl, ap, ap₂, sym, subst, _∙_}
 use mathlib.Core.Logic.{_⊎_, inl, inr, ⊎-elim}
@@ -234,7 +234,7 @@ module _ (p : Panel) (i now : ℕ) where
       (λ e. subst EmptyValue (look-accepted p i now e) (tile-empty-value (getD (p .tiles) i noTile)))
       (λ z. subst EmptyValue (look-refused p i now _ refl z) (λ g. refl))
 
--- ---- demand 3
+-- ---- the theorem
 
 each-at : (k : ℕ) (cs : List Call) → Each OfBytes cs → OfBytes (callAt cs k)
 each-at k [] o = tt

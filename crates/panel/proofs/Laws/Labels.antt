@@ -23,7 +23,7 @@ use Rattle.fields.proofs.Laws.Tests.{by-test}
 
 -- ---- an allowed tile
 
--- the type is the text TRANSFORM or POSITION
+-- the type is one of the two that are allowed
 abbrev pub IsPose : List ℕ → Type 0
 IsPose t = (t ≡ transformText) ⊎ (t ≡ positionText)
 

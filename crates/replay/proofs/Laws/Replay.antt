@@ -1,4 +1,4 @@
--- What running a script gives: call by call as the code runs it, and in the words of demand 3.
+-- What running a script gives: call by call as the code runs it, and by the book and the history.
 use Prim.Native.Nat.{ℕ, zero, suc, _-_, _≤_, _<_}
 use mathlib.Core.Path.{_≡_, refl, sym, ap, subst, _∙_}
 use mathlib.Core.Bool.{Bool, true, false, cond}
@@ -113,7 +113,7 @@ performed-says p (linkDown t) = call-says (eqb (linkOf false p t .number) 0) _ _
 performed-says p (message t s) = call-says (eqb (messageOf p t s .number) 0) _ _
 performed-says p (look i now) = look-says (lookOf p i now .answer) (lookOf p i now .value)
 
--- ---- demand 3 of the call c after the calls cs
+-- ---- what `Demand3` says of the call c after the calls cs
 
 module _ (cs : List Call) (bytes : Each OfBytes cs) where
   performed-padded : (c : Call) → PaddedValue (performed (panelAfter cs) c .answered .value)
