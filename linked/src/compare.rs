@@ -16,7 +16,7 @@ use std::fmt::{self, Debug, Display, Formatter};
 /// An answer without what goes with it, to be counted.
 #[derive(Clone, Copy, Debug, PartialEq, Eq, PartialOrd, Ord)]
 pub enum Label {
-    /// Document 01's number.
+    /// A number of rule 5.1.
     Number(u8),
     /// A CRC, or which answer of the panel that is no refusal.
     Word(&'static str),

@@ -91,8 +91,7 @@ pub fn read(stream: &[u8]) -> (u8, usize) {
 }
 
 /// How many numbers the answer to the front of a stream has: number, step, version, lengths of type
-/// and device name, time stamp, id; place and length of the further bytes, the content and the
-/// metadata.
+/// and device name, time stamp, id; place and length of each part: further bytes, content, metadata.
 pub const FIELDS: usize = 13;
 
 /// All numbers of the answer to the front of a stream.

@@ -1,4 +1,4 @@
-//! Contents by their type: a tree of values, made from bytes and turned into bytes.
+//! Contents by their type (rule 4.1): a tree of values, made from bytes and turned into bytes.
 
 pub mod bind;
 pub mod image;
@@ -9,7 +9,7 @@ use bind::Part;
 use image::Image;
 use pose::{Position, Transform};
 
-/// The level of the outermost BIND, and the deepest one.
+/// The level of the outermost BIND, and the deepest one (rule 4.15).
 const OUTERMOST: u32 = 1;
 const DEEPEST: u32 = 4;
 

@@ -1,4 +1,4 @@
-//! The CRC of document 01, as the remainder of a polynomial division over GF(2).
+//! The CRC of rule 2.3, as the remainder of a polynomial division over GF(2).
 
 /// x^64 and the polynomial below it.
 const DIVISOR: u128 = 0x1_42F0_E1EB_A9EA_3693;

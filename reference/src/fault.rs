@@ -1,10 +1,10 @@
-//! Document 01's numbers for what is refused.
+//! The numbers of rule 5.1 for what is refused.
 
 /// Why a message, a content, a look-up, a writer's call or a call on the panel is refused; the
 /// discriminant is the number given back.
 #[derive(Clone, Copy, Debug, PartialEq, Eq, PartialOrd, Ord)]
 pub enum Fault {
-    /// Fewer bytes than a header, or than the message that it announces.
+    /// A part of the header, or of the message that it announces, is missing.
     Short = 1,
     /// A type or a device name is no text, or does not fit its field.
     Text = 2,
@@ -15,7 +15,7 @@ pub enum Fault {
     /// The extended header, or what cannot be had with this version.
     Extended = 6,
     Metadata = 7,
-    /// A TRANSFORM or POSITION of another length.
+    /// The length of a TRANSFORM or a POSITION.
     Length = 8,
     Image = 9,
     Bind = 10,
@@ -23,10 +23,10 @@ pub enum Fault {
     Depth = 11,
     /// Bytes after the one message.
     LeftOver = 12,
-    /// No tile of the message's name and type.
+    /// No tile has the message's name and type.
     NoTile = 13,
     LinkDown = 14,
-    /// A clock earlier than the panel's.
+    /// A clock behind the panel's.
     Earlier = 15,
     /// A tile's type, name or hold time.
     Tile = 16,

@@ -1,5 +1,6 @@
-//! The independent second implementation, written from the papers alone; it shares no code with the
-//! crates. It makes the vector files, and stands beside the proved library in `linked/`.
+//! The independent second implementation, written from the customer's papers alone, whose rules
+//! docs/RULES.md numbers; it shares no code with the crates. It makes the vector files, and stands
+//! beside the proved library in `linked/`.
 
 pub mod content;
 pub mod crc;

@@ -1,4 +1,4 @@
-//! Look-ups of a BIND's children. Each judges the whole content first.
+//! Look-ups of a BIND's children (rules 6.1 and 6.2). Each judges the whole content first.
 
 use crate::content::bind::{self, Part};
 use crate::content::parse;
@@ -31,7 +31,7 @@ pub fn by_name<'a>(content: &'a [u8], name: &[u8]) -> Result<Found<'a>, Fault> {
     Bundle::open(content)?.named(name).ok_or(Fault::NotFound)
 }
 
-/// The child of that name from the site's bundle, else from the default one.
+/// The child with the name, looked for in the site's bundle and then in the default one.
 pub fn either<'a>(
     site: &'a [u8],
     default: &'a [u8],

@@ -1,5 +1,5 @@
 //! Makes the vector files below a repository's root, or checks that the stored ones are up to date.
-//! It is written from the papers alone and shares no code with the crates.
+//! It is written from the customer's papers alone and shares no code with the crates.
 //!
 //! From the root: `CARGO_TARGET_DIR=target/reference cargo run --manifest-path reference/Cargo.toml
 //! -- check .`, or `write .` to make the files again.

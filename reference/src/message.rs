@@ -23,7 +23,7 @@ pub struct Message<'a> {
 /// What is answered of the front of a stream.
 #[derive(Debug, PartialEq, Eq)]
 pub struct Reading<'a> {
-    /// How far the next message is, or 0 where that cannot be said.
+    /// The length of the message, or 0 with the numbers 1, 2 and 3 (rule 5.3).
     pub step: usize,
     pub message: Result<Message<'a>, Fault>,
 }
@@ -96,8 +96,8 @@ impl Message<'_> {
 }
 
 impl Reading<'_> {
-    /// Where the further bytes, the content and the metadata begin in the stream. They are the end
-    /// of the message, in this order, so their places are counted from there.
+    /// Where the further bytes begin in the stream, then the content, then the metadata. They are
+    /// the end of the message, in this order, so their places are counted from there.
     pub fn places(&self) -> [usize; 3] {
         let Ok(Message { body, .. }) = self.message else {
             return [0; 3];

@@ -1,5 +1,5 @@
-//! The panel of tiles. Nothing is kept of it but the calls and their answers: each answer is worked
-//! out from those before it.
+//! The panel of tiles (rules 7.1 to 7.10). Nothing is kept of it but the calls and their answers:
+//! each answer is worked out from those before it.
 
 mod tile;
 
@@ -62,7 +62,7 @@ pub struct History<'a> {
     events: Vec<Event<'a>>,
 }
 
-/// A message that counted: its place in the history, its clock and its content.
+/// A message that counted (rule 7.5): its place in the history, its clock and its content.
 struct Counted<'a> {
     place: usize,
     clock: u64,

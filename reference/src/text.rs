@@ -1,4 +1,4 @@
-//! Texts of bytes 1 to 127, and the fields of a fixed length that hold them.
+//! Texts, and the fields of a fixed length that hold them (rule 2.2).
 
 /// A text and zeros to the end of its field, where it is a text and fits.
 pub fn field<const LENGTH: usize>(text: &[u8]) -> Option<[u8; LENGTH]> {

@@ -1,5 +1,5 @@
-// Lists what the reader answers to a stream of messages (rule 8.3). It reads at most 65,536 bytes from its standard input, and prints a line
-// for each answer from the front on: the place, the number and the step, in decimal digits. It ends after a step of 0.
+// Lists what the reader answers to a stream of messages (rule 8.3). It reads at most 65,536 bytes from its standard input, and prints a
+// line for each answer from the front on: the place, the number and the step, in decimal digits. It ends after a step of 0.
 use libc::STDIN_FILENO;
 use libc::STDOUT_FILENO;
 use message::Answer;

@@ -1,4 +1,5 @@
-//! The layout of a BIND content: its children's types, names and data, whatever these hold.
+//! The layout of a BIND content (rules 4.9 to 4.12): its children's types, names and data, whatever
+//! these hold.
 //!
 //! A content is taken apart without asking whether its fields agree. It keeps the rule if putting
 //! the parts together again gives the same bytes.

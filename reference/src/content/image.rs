@@ -1,9 +1,9 @@
-//! IMAGE: a header of 72 bytes, then the pixels of the part of the image that is sent.
+//! IMAGE (rules 4.5 to 4.8): a header, then the pixels of the part of the image that is sent.
 
 use crate::cursor::Cursor;
 use crate::fault::Fault;
 
-/// The fields of document 01's table, in its order; each triple runs over the directions i, j, k.
+/// The fields of rule 4.5, in its order; each triple runs over the directions i, j, k.
 #[derive(Clone, Debug, PartialEq, Eq, Default)]
 pub struct Header {
     /// V, any number.
@@ -126,7 +126,7 @@ mod tests {
     use super::{Header, Image};
     use crate::fault::Fault;
 
-    /// P9: T 3, S 5, DRI x DRJ x DRK 2 x 2 x 1, RI 3, DI 1.
+    /// P9 of rule 8.1, with DI 1 and RI 3.
     fn p9() -> Header {
         Header {
             components: 3,

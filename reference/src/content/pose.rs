@@ -1,4 +1,4 @@
-//! TRANSFORM and POSITION. Floats are words of 32 bits, carried bit for bit.
+//! TRANSFORM and POSITION (rules 4.2 to 4.4). A float is the word of 32 bits that it is sent as.
 
 use crate::cursor::Cursor;
 use crate::fault::Fault;

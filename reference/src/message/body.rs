@@ -1,4 +1,5 @@
-//! The body of a message: the content alone, or between an extended header and the metadata.
+//! The body of a message (rules 3.5 to 3.7): the content alone, or between an extended header and
+//! the metadata.
 //!
 //! A body is taken apart by its sizes alone. It keeps the rule if putting the sections together
 //! again, with sizes counted anew, gives the same bytes.

@@ -7,7 +7,7 @@ use crate::text;
 
 pub const LENGTH: usize = 58;
 
-/// The largest BODY_SIZE.
+/// The largest BODY_SIZE (rule 3.3).
 const LIMIT: u64 = 16_777_216;
 
 /// The fields in their order. The version and the CRC are any.

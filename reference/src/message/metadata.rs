@@ -1,4 +1,4 @@
-//! The metadata section: keys, and values with their encodings.
+//! The metadata section (rules 3.8 to 3.11): keys, and values with their encodings.
 //!
 //! As for a BIND, a section is taken apart by its sizes alone, and keeps the rule if putting the
 //! entries together again gives the same bytes.

@@ -1,4 +1,4 @@
-//! Time stamps: whole seconds in the upper 32 bits, a fraction of a second in the lower.
+//! Time stamps (rule 3.12): a number of seconds and a fraction of a second, 32 bits each.
 
 /// One second, in the units of the fraction.
 const SECOND: u64 = 1 << 32;

@@ -9,7 +9,7 @@ const TYPES: [&[u8]; 2] = [b"TRANSFORM", b"POSITION"];
 /// The longest name, which is the longest device name.
 const LONGEST_NAME: usize = 20;
 
-/// The longest hold time in milliseconds.
+/// The longest hold time in milliseconds (rule 7.3).
 const LONGEST_HOLD: u64 = 60_000;
 
 pub struct Tile<'a> {

@@ -184,7 +184,7 @@ fn by_chance(random: &mut Random) -> Vec<Case> {
     (0..CHANCES).map(|_| case()).collect()
 }
 
-/// A version and a type; how many zeros the further bytes, the content and the metadata are.
+/// A version and a type; of how many zeros each section is: further bytes, content, metadata.
 type Zeros = (u16, &'static [u8], [u32; 3]);
 
 /// Sections around the most that their size fields say.

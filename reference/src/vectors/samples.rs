@@ -133,7 +133,7 @@ impl Fields {
         }
     }
 
-    /// The content alone with version 1, all sections with every other one.
+    /// The content alone with V 1, all sections with every other one.
     fn body(&self) -> Vec<u8> {
         if self.version == 1 {
             return self.content.clone();

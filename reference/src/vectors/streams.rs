@@ -42,7 +42,7 @@ pub fn messages(stream: &[u8]) -> Vec<&[u8]> {
     messages.collect()
 }
 
-/// Document 01's input of the listing: a message without a body, then one whose CRC is wrong.
+/// The listing's input of rule 8.3: a message without a body, then one whose CRC is wrong.
 pub fn listing_input() -> Vec<u8> {
     let sound = Sample::plain(b"GET_STATUS", &[]).bytes();
     let mut wrong = Fields::of(&Sample::plain(b"GET_STATUS", &[1]));
@@ -135,7 +135,7 @@ mod tests {
     use crate::listing::{lines, table};
     use crate::message::read;
 
-    /// As document 01 has it.
+    /// As rule 8.3 has it.
     #[test]
     fn the_listing_of_the_sample() {
         let input = listing_input();

@@ -19,7 +19,7 @@ pub fn bytes(n: usize) -> Vec<u8> {
 
 // ---- messages
 
-/// A message of version 1, from the Arm.
+/// A message of V 1, from the Arm.
 pub fn plain<'a>(type_text: &'a [u8], content: &'a [u8]) -> Message<'a> {
     Message {
         version: 1,
@@ -37,7 +37,7 @@ pub fn encoded(message: &Message) -> Vec<u8> {
     message.encode().expect("a sound message")
 }
 
-/// A TRANSFORM of version 2 with metadata of four entries.
+/// A TRANSFORM of V 2 with metadata of four entries.
 pub fn with_metadata() -> Vec<u8> {
     let entry = |key, value| Entry {
         key,
@@ -59,7 +59,7 @@ pub fn with_metadata() -> Vec<u8> {
     encoded(&message)
 }
 
-/// An IMAGE of version 2 whose body has n * n bytes: n rows of n - 1 pixels, and in the extended
+/// An IMAGE of V 2 whose body has n * n bytes: n rows of n - 1 pixels, and in the extended
 /// header as many further bytes as are missing then.
 pub fn image(n: u16) -> Vec<u8> {
     let size = [n - 1, n, 1];

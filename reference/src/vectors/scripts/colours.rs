@@ -187,7 +187,7 @@ fn version_2_with_every_section() -> Script {
     after_start(&calls, 1301)
 }
 
-/// The time stamp is never compared with the panel's clock.
+/// A time stamp has no effect on what is shown (rule 3.13).
 fn any_time_stamp() -> Script {
     let sent = [u64::MAX, 1, 1 << 63].map(|time_stamp| {
         let sample = Sample {

@@ -1,4 +1,4 @@
-//! The panel of tiles. As in the library it goes into each call by value and comes back.
+//! The panel of tiles. As in the library, a call takes it by value and returns it.
 
 use super::fields::{is_text, sized};
 use super::message;
