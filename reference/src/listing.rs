@@ -1,4 +1,4 @@
-//! The listing (rule 8.3): what is answered at each place of a stream, and last a step of 0.
+//! The listing (rule 8.3): what is answered at each place of a stream, up to the first step of 0.
 
 use crate::fault::number;
 use crate::message::read;

@@ -20,8 +20,8 @@ OfBytes (linkDown t) = Unit {0}
 OfBytes (message t s) = Bytes s
 OfBytes (look i t) = Unit {0}
 
--- refused with a number; accepted, as a link call or a message that counts (rule 7.5); added, with the tile's number; and the three cases of a look,
--- green and grey with the age and the value
+-- refused with a number; accepted, as a link call or a message that counts (rule 7.5); added, with the tile's number; and the three cases
+-- of a look, green and grey with the age and the value
 pub data Answer : Type 0 where
   refused : (number : ℕ) → Answer
   accepted : Answer

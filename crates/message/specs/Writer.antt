@@ -31,7 +31,7 @@ given f typeText deviceName further content metadata =
 abbrev pub bodyLength : ℕ → ℕ → ℕ → ℕ → ℕ
 bodyLength version further content metadata = cond (eqb version 2) (12 + further + content + metadata) content
 
--- check 6 of a writer (rule 5.9), by MSG_ID and the lengths of the further bytes and the metadata: V 1 has none of them; of V 2 both sizes fit two bytes
+-- check 6 of a writer (rule 5.9), by MSG_ID and the lengths of further bytes and metadata: V 1 has none of them; V 2 has sizes of two bytes
 unfoldable pub fits : ℕ → ℕ → ℕ → ℕ → Bool
 fits version id further metadata =
     cond (eqb version 2)
