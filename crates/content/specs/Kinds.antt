@@ -1,4 +1,4 @@
--- The types whose contents have a rule (rule 4.1). The content of any other type is opaque: any bytes will do for it.
+-- The types whose contents have a rule (rule 4.1). The content of any other type is opaque: it can be any bytes.
 use Prim.Native.Nat.{ℕ}
 use mathlib.Core.Bool.{cond}
 use mathlib.Core.List.{List, [], _∷_}

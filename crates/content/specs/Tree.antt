@@ -52,7 +52,7 @@ pub record Opaque (t : List ℕ) : Type 0 where
   pub no-image : t ≡ imageText → ⊥
   pub no-bind : t ≡ bindText → ⊥
 
--- what the rules ask of a content where so many levels of BIND are left: it keeps that of its type, and a BIND takes a level (rule 4.15)
+-- a content is well formed where so many levels of BIND are left: it keeps the rule of its type, and a BIND takes a level (rule 4.15)
 unfoldable mutual
   pub WellFormed : Content → ℕ → Type 0
   WellFormed (transform ws) levels = WellTransform ws

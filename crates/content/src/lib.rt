@@ -31,9 +31,9 @@ fn kind_of(type_text: &[u8]) -> Kind
     Kind::Other
 }
 
-// The check of a content and the check of a BIND call each other (rule 9.1). The measure is twice the levels left and twice the bytes left, and
-// one more here, as this function hands on both as they are. A BIND hands a child one level less, and fewer bytes: its own four bytes of
-// counts are not part of any child.
+// The check of a content and the check of a BIND call each other (rule 9.1). The measure is twice the levels left and twice the bytes
+// left, and one more here, as this function hands on both as they are. A BIND hands a child one level less, and fewer bytes: its own four
+// bytes of counts are not part of any child.
 fn check_content(type_text: &[u8], content: &[u8], levels: u32) -> u8
     ensures { λ r. ⌜ r ≡ contentFault levels (now («type_text» .entry)) (now (content .entry)) ⌝ }
 {

@@ -58,7 +58,7 @@ pub record Borders : Type 0 where
   pub p9 : (length (imageOfBorder 2 0 2) ≡ 96) × (imageFault (imageOfBorder 2 0 2) ≡ 0)
   pub p9-inside : imageFault (imageOfBorder 3 1 2) ≡ 0
   pub p9-outside : imageFault (imageOfBorder 2 1 2) ≡ 9
-  -- a tile for Arm with a hold time of 500, and any TRANSFORM message from Arm: a look at that age, one later, one before the message
+  -- a tile for Arm with a hold time of 500, and any TRANSFORM message from Arm: looks at the ages 500 and 501, and one before the message
   pub p10 : (m : Message) → FromArm m → looked (armCalls m) 1700 ≡ green 500 (valueFor m)
   pub p11 : (m : Message) → FromArm m → looked (armCalls m) 1701 ≡ grey 501 (valueFor m)
   pub p11-earlier : (m : Message) → FromArm m → looked (armCalls m) 1199 ≡ refused 15

@@ -65,7 +65,7 @@ headerRead s = cond (eqb (headerFault s) 0) (handed (headerOf s)) (refused (head
 
 -- ---- the writer
 
--- check 2 of a writer: the names are texts that fit their fields (rule 5.8)
+-- check 2 of a writer: a name is no text that fits its field (rule 5.8)
 unfoldable pub namesFault : List ℕ → List ℕ → ℕ
 namesFault t n = cond (leb (length t) 12 && (leb (length n) 20 && (isText t && isText n))) 0 2
 

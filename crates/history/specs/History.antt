@@ -1,5 +1,5 @@
--- What rules 1.7, 1.8 and 7.9 say of a sequence of calls. A call's place is its number in the sequence, from 0; the book that it meets is that
--- of the calls before it.
+-- What rules 1.7, 1.8 and 7.9 say of a sequence of calls. A call's place is its number in the sequence, from 0; the book that it meets
+-- is that of the calls before it.
 use Prim.Native.Nat.{ℕ, _-_, _<_, _≤_}
 use mathlib.Core.Path.{_≡_}
 use mathlib.Core.Logic.{_⊎_, _↔_}

@@ -38,7 +38,7 @@ extendedOk b =
 unfoldable pub bodyFault : ℕ → List ℕ → ℕ
 bodyFault version b = cond (eqb version 2) (cond (extendedOk b) 0 6) 0
 
--- where the sections stand in the body: the content is what the other two leave (rule 3.7)
+-- where the sections stand in the body: the content is what the extended header and the metadata leave (rule 3.7)
 abbrev pub extendedPlaces : List ℕ → Places
 extendedPlaces b =
     record {

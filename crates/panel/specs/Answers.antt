@@ -1,4 +1,4 @@
--- The panel's answers as those of a call (rule 9.6): for each case its number and the values that it carries.
+-- The panel's answers as cases of `Answer` in crate history: for each its number and the values that it carries (rule 9.6).
 use Prim.Native.Nat.{ℕ}
 use mathlib.Core.Bool.{cond}
 use lib.Dec.{eqb}

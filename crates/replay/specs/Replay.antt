@@ -75,7 +75,7 @@ lookAfter s i now = afterLook (lookOf (panelAfter (callsIn s)) i now) .answered
 
 -- ---- by the book and the history
 
--- each answer as that of a call (rule 9.6), with its number and values; none where there is no call
+-- each answer as a case of `Answer` in crate history (rule 9.6); none where there is no call
 abbrev pub saying : CallAnswer → List ℕ → Option Answer
 saying Accepted v = some accepted
 saying (Added i) v = some (added i)
