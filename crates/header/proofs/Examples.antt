@@ -1,8 +1,40 @@
 -- The examples, by computation.
 use mathlib.Core.Path.{refl}
-use Rattle.header.specs.Check.{limitFault}
+use Rattle.fields.specs.Bytes.{sized}
+use Rattle.fields.specs.Lists.{all}
+use Rattle.fields.specs.Numbers.{beVal, beBytes}
+use Rattle.fields.specs.Text.{isText, textOf, pastText, allZero, textOk, textClean, fieldOk, textBytes}
+use Rattle.fields.specs.Answer.{writtenOf, roomFault, outAfter}
+use Rattle.header.specs.Header.{encodeHeader}
+use Rattle.header.specs.Check.{headerOf, shortFault, textsFault, limitFault, headerFault, headerRead, namesFault, writeFault, headerWritten, headerOut}
 use Rattle.header.specs.Examples.{Examples}
 
 pub examples : Examples
-unfolding limitFault
-examples = record { seconds = refl; half = refl; least = refl; rounded-down = refl; largest = refl; at-limit = refl; above-limit = refl }
+unfolding sized all beVal beBytes isText textOf pastText allZero textOk textClean fieldOk textBytes writtenOf roomFault outAfter encodeHeader headerOf shortFault textsFault limitFault headerFault headerRead namesFault writeFault headerWritten headerOut
+examples =
+    record {
+      layout = refl;
+      layout-read = refl;
+      texts-read = refl;
+      wrote = refl;
+      written = refl;
+      short = refl;
+      accepted = refl;
+      two = refl;
+      three = refl;
+      order = refl;
+      name-lengths = refl;
+      name-bytes = refl;
+      write-two = refl;
+      write-three = refl;
+      no-room = refl;
+      seconds = refl;
+      half = refl;
+      seconds-read = refl;
+      nanoseconds-read = refl;
+      least = refl;
+      rounded-down = refl;
+      largest = refl;
+      at-limit = refl;
+      above-limit = refl;
+    }

@@ -1,13 +1,99 @@
--- What the definitions say of a few time stamps, and of the limit.
-use Prim.Native.Nat.{_+_, _*_, _^_}
+-- A header byte by byte, read and written; each number of the reader and of the writer, and both sides of its limits; time stamps.
+use Prim.Native.Nat.{ℕ, _+_, _*_, _^_}
 use mathlib.Core.Path.{_≡_}
-use Rattle.header.specs.Check.{limitFault}
+use mathlib.Core.List.{List, [], _∷_, _++_, map}
+use lib.ListN.{take, replicate}
+use Rattle.fields.specs.declared.Written.{Written}
+use Rattle.fields.specs.declared.Written.the-variants.{Wrote, Refused}
+use Rattle.header.specs.Header.{Header, encodeHeader}
+use Rattle.header.specs.Check.{headerOf, limitFault, headerRead, headerWritten, headerOut}
 use Rattle.header.specs.TimeStamp.{secondsOf, nanosecondsOf}
 
+-- every field with a value of its own: V 2, TYPE "TIME", DEVICE_NAME "Arm"
+abbrev pub distinct : Header
+distinct =
+    record {
+      version = 2;
+      typeText = 0x54 ∷ 0x49 ∷ 0x4D ∷ 0x45 ∷ [];
+      deviceName = 0x41 ∷ 0x72 ∷ 0x6D ∷ [];
+      timeStamp = 0x1112131415161718;
+      bodySize = 0x212223;
+      crc = 0x3132333435363738;
+    }
+
+-- its bytes, a line for each field
+abbrev pub distinctBytes : List ℕ
+distinctBytes =
+    0 ∷ 2
+    ∷ 0x54 ∷ 0x49 ∷ 0x4D ∷ 0x45 ∷ 0 ∷ 0 ∷ 0 ∷ 0 ∷ 0 ∷ 0 ∷ 0 ∷ 0
+    ∷ 0x41 ∷ 0x72 ∷ 0x6D ∷ 0 ∷ 0 ∷ 0 ∷ 0 ∷ 0 ∷ 0 ∷ 0 ∷ 0 ∷ 0 ∷ 0 ∷ 0 ∷ 0 ∷ 0 ∷ 0 ∷ 0 ∷ 0 ∷ 0
+    ∷ 0x11 ∷ 0x12 ∷ 0x13 ∷ 0x14 ∷ 0x15 ∷ 0x16 ∷ 0x17 ∷ 0x18
+    ∷ 0 ∷ 0 ∷ 0 ∷ 0 ∷ 0 ∷ 0x21 ∷ 0x22 ∷ 0x23
+    ∷ 0x31 ∷ 0x32 ∷ 0x33 ∷ 0x34 ∷ 0x35 ∷ 0x36 ∷ 0x37 ∷ 0x38
+    ∷ []
+
+-- the bytes of a header with these in the fields TYPE, DEVICE_NAME and BODY_SIZE
+abbrev pub bytesWith : List ℕ → List ℕ → List ℕ → List ℕ
+bytesWith t n size = 0 ∷ 2 ∷ (t ++ (n ++ (replicate 8 0 ++ (size ++ replicate 8 0))))
+
+-- text fields: "A" in every byte; none: "A" behind zeros
+abbrev pub full : ℕ → List ℕ
+full n = replicate n 65
+
+abbrev pub behindZeros : ℕ → List ℕ
+behindZeros n = replicate n 0 ++ (65 ∷ [])
+
+-- BODY_SIZE 16,777,216, one more, and 2^56
+abbrev pub atLimit : List ℕ
+atLimit = 0 ∷ 0 ∷ 0 ∷ 0 ∷ 1 ∷ 0 ∷ 0 ∷ 0 ∷ []
+
+abbrev pub aboveLimit : List ℕ
+aboveLimit = 0 ∷ 0 ∷ 0 ∷ 0 ∷ 1 ∷ 0 ∷ 0 ∷ 1 ∷ []
+
+abbrev pub farAbove : List ℕ
+farAbove = 1 ∷ 0 ∷ 0 ∷ 0 ∷ 0 ∷ 0 ∷ 0 ∷ 0 ∷ []
+
+-- the reader's numbers
+abbrev pub numbersOf : List (List ℕ) → List ℕ
+numbersOf streams = map (λ s. headerRead s .number) streams
+
+-- a header for the writer: these texts and this BODY_SIZE
+abbrev pub headerWith : List ℕ → List ℕ → ℕ → Header
+headerWith t n size = record { version = 2; typeText = t; deviceName = n; timeStamp = 0; bodySize = size; crc = 0 }
+
+-- the answers for such texts, with room
+abbrev pub answersOf : List (List ℕ × List ℕ) → List Written
+answersOf texts = map (λ x. headerWritten (headerWith (x .0) (x .1) 0) 58) texts
+
 pub record Examples : Type 0 where
+  -- the order and the widths of the fields: written, read in front of a further byte, and written into 60 bytes, of which two stay
+  pub layout : encodeHeader distinct ≡ distinctBytes
+  pub layout-read : headerRead (distinctBytes ++ (9 ∷ []))
+      ≡ record { number = 0; version = 2; «type_len» = 4; «name_len» = 3; «time_stamp» = 0x1112131415161718; «body_size» = 0x212223; crc = 0x3132333435363738 }
+  pub texts-read : headerOf (distinctBytes ++ (9 ∷ [])) ≡ distinct
+  pub wrote : headerWritten distinct 60 ≡ Wrote 58
+  pub written : headerOut distinct (replicate 60 5) ≡ distinctBytes ++ (5 ∷ 5 ∷ [])
+  -- 57 bytes are 1, and nothing is handed out
+  pub short : headerRead (take 57 distinctBytes)
+      ≡ record { number = 1; version = 0; «type_len» = 0; «name_len» = 0; «time_stamp» = 0; «body_size» = 0; crc = 0 }
+  -- full fields and the largest body; no text field; a body too large; 2 before 3, and 1 before both
+  pub accepted : numbersOf (bytesWith (full 12) (full 20) atLimit ∷ bytesWith (replicate 12 0) (replicate 20 0) (replicate 8 0) ∷ []) ≡ 0 ∷ 0 ∷ []
+  pub two : numbersOf (bytesWith (behindZeros 11) (full 20) atLimit ∷ bytesWith (full 12) (behindZeros 19) atLimit ∷ []) ≡ 2 ∷ 2 ∷ []
+  pub three : numbersOf (bytesWith (full 12) (full 20) aboveLimit ∷ bytesWith (full 12) (full 20) farAbove ∷ []) ≡ 3 ∷ 3 ∷ []
+  pub order : numbersOf (bytesWith (full 12) (behindZeros 19) aboveLimit ∷ take 57 (bytesWith (full 12) (behindZeros 19) aboveLimit) ∷ []) ≡ 2 ∷ 1 ∷ []
+  -- the writer: texts that fill their fields, and one byte more of either; a byte 0, a byte 128
+  pub name-lengths : answersOf ((full 12, full 20) ∷ (full 13, full 20) ∷ (full 12, full 21) ∷ []) ≡ Wrote 58 ∷ Refused 2 ∷ Refused 2 ∷ []
+  pub name-bytes : answersOf ((1 ∷ 127 ∷ [], []) ∷ (0 ∷ [], []) ∷ ([], 128 ∷ []) ∷ []) ≡ Wrote 58 ∷ Refused 2 ∷ Refused 2 ∷ []
+  -- its order: 2, 3, 20
+  pub write-two : headerWritten (headerWith (full 13) [] 16777217) 57 ≡ Refused 2
+  pub write-three : headerWritten (headerWith (full 12) [] 16777217) 57 ≡ Refused 3
+  pub no-room : headerWritten (headerWith (full 12) [] 16777216) 57 ≡ Refused 20
   -- seven seconds and a half
   pub seconds : secondsOf (7 * 2 ^ 32 + 2 ^ 31) ≡ 7
   pub half : nanosecondsOf (7 * 2 ^ 32 + 2 ^ 31) ≡ 500000000
+  -- of the time stamp above: 0x15161718 x 10^9 / 2^32, rounded down
+  pub seconds-read : secondsOf 0x1112131415161718 ≡ 0x11121314
+  pub nanoseconds-read : nanosecondsOf 0x1112131415161718 ≡ 82368319
   -- a fraction of 2^-32 is no whole nanosecond, one of 5 x 2^-32 is; the largest is less than a second
   pub least : nanosecondsOf 1 ≡ 0
   pub rounded-down : nanosecondsOf 5 ≡ 1

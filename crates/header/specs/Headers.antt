@@ -48,6 +48,10 @@ pub record Headers : Type 0 where
   pub short : (s : List ℕ) → length s < 58 → headerRead s ≡ refused 1
   pub no-text : (s : List ℕ) → 58 ≤ length s → (TextsHeld s → ⊥) → headerRead s ≡ refused 2
   pub too-long : (s : List ℕ) → 58 ≤ length s → TextsHeld s → limit < beAt 8 42 s → headerRead s ≡ refused 3
+  -- a refusal hands out its number and nothing else
+  pub nothing-handed : (s : List ℕ) → (headerFault s ≡ 0 → ⊥)
+      → headerRead s
+      ≡ record { number = headerFault s; version = 0; «type_len» = 0; «name_len» = 0; «time_stamp» = 0; «body_size» = 0; crc = 0 }
   -- the writer: 2 exactly for what are no texts that fit; else its number is the reader's for the bytes that it would write, then 20;
   -- it writes back what was read, and keeps the bytes beyond
   pub names : (h : Header) (room : ℕ) → (WellTexts (h .typeText) (h .deviceName) → ⊥) → writtenNumber (headerWritten h room) ≡ 2

@@ -204,6 +204,8 @@ images =
       answered = answered;
       header-read = λ x w. read-encoded x (w .fits) (image-well x w);
       pixels-read = λ x w. pixels-encoded x (image-well x w);
+      no-header = read-refused;
+      no-pixels = pixels-refused;
       answered-back = λ c out h k.
           answer-wrote (imageOf c .header) (pixelsOf c) out (write-read c out h k) ∙ ap Wrote (length-read c h);
       written-back = λ c out b h k.

@@ -1,8 +1,9 @@
--- The layout of a header, byte by byte, and case P9 of rule 8.1.
+-- The layout of a header, byte by byte; case P9; both sides of each limit of the rule; what a refusal hands out.
 use Prim.Native.Nat.{ℕ}
 use mathlib.Core.Path.{_≡_}
-use mathlib.Core.List.{List, [], _∷_, _++_}
+use mathlib.Core.List.{List, [], _∷_, _++_, map}
 use lib.ListN.{length, take, drop, replicate}
+use lib.Seq.{sets}
 use Rattle.fields.specs.declared.Written.the-variants.{Wrote, Refused}
 use Rattle.image.specs.declared.ImageHeader.{ImageHeader}
 use Rattle.image.specs.Image.{encodeImage, imageFault, imageOf, pixelsOf, imageOfParts, imageWritten, imageAfter}
@@ -60,6 +61,27 @@ distinctBytes =
     ∷ 0 ∷ 4 ∷ 0 ∷ 6 ∷ 0 ∷ 7
     ∷ []
 
+-- T 1, S 2, E 1, O 1; RI RJ RK are 2 3 4, DI DJ DK 1 1 1 and DRI DRJ DRK 1 2 3: in each direction the part ends where the image does
+abbrev pub bordered : List ℕ
+bordered =
+    0 ∷ 1 ∷ 1 ∷ 2 ∷ 1 ∷ 1
+    ∷ 0 ∷ 2 ∷ 0 ∷ 3 ∷ 0 ∷ 4
+    ∷ (replicate 48 0
+    ++ (0 ∷ 1 ∷ 0 ∷ 1 ∷ 0 ∷ 1
+    ∷ 0 ∷ 1 ∷ 0 ∷ 2 ∷ 0 ∷ 3
+    ∷ replicate 6 7))
+
+-- its number with these bytes at a place; and without pixels
+abbrev pub changed : ℕ → List ℕ → ℕ
+changed at bytes = imageFault (sets bordered at bytes)
+
+abbrev pub emptied : ℕ → List ℕ → ℕ
+emptied at bytes = imageFault (take 72 (sets bordered at bytes))
+
+-- twelve scalars of type S in 0, 12, 24, 48 and 96 bytes
+abbrev pub ofType : ℕ → List ℕ
+ofType s = map (λ n. imageFault (content (header s 2 0 2) n)) (0 ∷ 12 ∷ 24 ∷ 48 ∷ 96 ∷ [])
+
 pub record Examples : Type 0 where
   -- the order and the widths of the fields: written, and read before 3 x 2 x (4 x 6 x 7) bytes of pixels
   pub layout : encodeImage (imageOfParts distinct []) ≡ distinctBytes
@@ -81,6 +103,47 @@ pub record Examples : Type 0 where
   pub float64 : imageFault (content (header 11 2 0 2) 96) ≡ 0
   pub no-type : imageFault (content (header 8 2 0 2) 48) ≡ 9
   pub nothing : imageFault [] ≡ 9
+  -- rule 4.6: the types of 1, 2, 4 and 8 bytes, and no others
+  pub types-of-1 : map ofType (2 ∷ 3 ∷ []) ≡ replicate 2 (9 ∷ 0 ∷ 9 ∷ 9 ∷ 9 ∷ [])
+  pub types-of-2 : map ofType (4 ∷ 5 ∷ []) ≡ replicate 2 (9 ∷ 9 ∷ 0 ∷ 9 ∷ 9 ∷ [])
+  pub types-of-4 : map ofType (6 ∷ 7 ∷ 10 ∷ []) ≡ replicate 3 (9 ∷ 9 ∷ 9 ∷ 0 ∷ 9 ∷ [])
+  pub types-of-8 : ofType 11 ≡ 9 ∷ 9 ∷ 9 ∷ 9 ∷ 0 ∷ []
+  pub no-types : map ofType (0 ∷ 1 ∷ 8 ∷ 9 ∷ 12 ∷ 255 ∷ []) ≡ replicate 6 (replicate 5 9)
+  -- any V; E and O from 0 to 3; T, DRI, DRJ or DRK 0, so that no pixels are needed
+  pub border : imageFault bordered ≡ 0
+  pub any-version : changed 0 (0xFF ∷ 0xFF ∷ []) ≡ 0
+  pub endians : map (λ e. changed 4 (e ∷ [])) (0 ∷ 1 ∷ 2 ∷ 3 ∷ []) ≡ 9 ∷ 0 ∷ 0 ∷ 9 ∷ []
+  pub coordinates : map (λ o. changed 5 (o ∷ [])) (0 ∷ 1 ∷ 2 ∷ 3 ∷ []) ≡ 9 ∷ 0 ∷ 0 ∷ 9 ∷ []
+  pub no-components : emptied 2 (0 ∷ []) ≡ 9
+  pub none-sent : map (λ at. emptied at (0 ∷ 0 ∷ [])) (66 ∷ 68 ∷ 70 ∷ []) ≡ 9 ∷ 9 ∷ 9 ∷ []
+  -- RI, RJ or RK 0, one less and one more
+  pub no-sizes : map (λ at. changed at (0 ∷ 0 ∷ [])) (6 ∷ 8 ∷ 10 ∷ []) ≡ 9 ∷ 9 ∷ 9 ∷ []
+  pub smaller : changed 6 (0 ∷ 1 ∷ []) ∷ changed 8 (0 ∷ 2 ∷ []) ∷ changed 10 (0 ∷ 3 ∷ []) ∷ [] ≡ 9 ∷ 9 ∷ 9 ∷ []
+  pub larger : changed 6 (0 ∷ 3 ∷ []) ∷ changed 8 (0 ∷ 4 ∷ []) ∷ changed 10 (0 ∷ 5 ∷ []) ∷ [] ≡ 0 ∷ 0 ∷ 0 ∷ []
+  -- DI, DJ or DK one more, and 0
+  pub shifted : map (λ at. changed at (0 ∷ 2 ∷ [])) (60 ∷ 62 ∷ 64 ∷ []) ≡ 9 ∷ 9 ∷ 9 ∷ []
+  pub at-front : map (λ at. changed at (0 ∷ 0 ∷ [])) (60 ∷ 62 ∷ 64 ∷ []) ≡ 0 ∷ 0 ∷ 0 ∷ []
+  -- a refused content hands out zeros and no pixels
+  pub zeros : imageOf (take 77 bordered)
+      ≡ record {
+        number = 9;
+        header =
+            record {
+              version = 0;
+              components = 0;
+              «scalar_type» = 0;
+              endian = 0;
+              coordinate = 0;
+              size = 0 ∷ 0 ∷ 0 ∷ [];
+              «axis_i» = 0 ∷ 0 ∷ 0 ∷ [];
+              «axis_j» = 0 ∷ 0 ∷ 0 ∷ [];
+              «axis_k» = 0 ∷ 0 ∷ 0 ∷ [];
+              centre = 0 ∷ 0 ∷ 0 ∷ [];
+              offset = 0 ∷ 0 ∷ 0 ∷ [];
+              «sub_size» = 0 ∷ 0 ∷ 0 ∷ [];
+            };
+      }
+  pub no-pixels : pixelsOf (take 77 bordered) ≡ []
   -- the writer: into 96 bytes, into 95, and with RI 2
   pub wrote : imageWritten (header 5 3 1 2) (replicate 24 7) (replicate 96 0) ≡ Wrote 96
   pub no-room : imageWritten (header 5 3 1 2) (replicate 24 7) (replicate 95 0) ≡ Refused 20

@@ -225,6 +225,9 @@ pub record Images : Type 0 where
   -- the reader hands out that image
   pub header-read : (x : Image) → WellImage x → imageOf (encodeImage x) ≡ record { number = 0; header = x .header }
   pub pixels-read : (x : Image) → WellImage x → pixelsOf (encodeImage x) ≡ x .pixels
+  -- a refused content hands out no header and no pixels
+  pub no-header : (c : List ℕ) → (imageFault c ≡ 0 → ⊥) → imageOf c ≡ record { number = imageFault c; header = noHeader }
+  pub no-pixels : (c : List ℕ) → (imageFault c ≡ 0 → ⊥) → pixelsOf c ≡ []
   -- the writer, given what was read and room, writes the content back, and keeps the bytes beyond
   pub answered-back : (c out : List ℕ) → imageFault c ≡ 0 → length c ≤ length out → imageWritten (imageOf c .header) (pixelsOf c) out ≡ Wrote (length c)
   pub written-back : (c out : List ℕ) → Bytes c → imageFault c ≡ 0 → length c ≤ length out

@@ -16,6 +16,7 @@ examples =
       wrote = refl;
       written = refl;
       short = refl;
+      long = refl;
       no-room = refl;
       position-12 = refl;
       position-24 = refl;
@@ -23,4 +24,9 @@ examples =
       position-13 = refl;
       position-written = refl;
       four-words = refl;
+      transform-lengths = refl;
+      position-lengths = refl;
+      word-counts = refl;
+      position-no-room = refl;
+      eight-first = refl;
     }

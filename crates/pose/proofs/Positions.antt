@@ -21,7 +21,7 @@ use Rattle.fields.proofs.Laws.Answer.{written-wrote, written-number, out-wrote,
 use Rattle.pose.specs.declared.PositionRead.{PositionRead}
 use Rattle.pose.specs.Words.{wordBytes}
 use Rattle.pose.specs.Position.{PositionCount, three, six, seven, WellPosition, IsPosition, wordsIn, positionFault, positionAt, positionOf, positionWords, countFault, positionChecks, positionWritten, positionOut, Positions}
-use Rattle.pose.proofs.Laws.{length-wordBytes, words-read, words-back, words-unique, position-count, position-accepted, position-words, position-well, position-read, count-passed, count-bytes}
+use Rattle.pose.proofs.Laws.{length-wordBytes, words-read, words-back, words-unique, position-count, position-accepted, position-words, position-well, position-read, position-refused, count-passed, count-bytes}
 
 -- the words that there are, out of the seven places
 front : (k : ℕ) (c : List ℕ) → PositionCount k → take k (positionAt c) ≡ numbersAt 0 (replicate k 4) c
@@ -124,6 +124,7 @@ positions =
       read = read;
       handed = handed;
       zeros = zeros;
+      no-words = position-refused;
       written-back = written-back;
       read-back = λ ws out h k. (
         ap positionFault (written ws out h k) ∙ position-well ws h,

@@ -19,7 +19,7 @@ use Rattle.pose.specs.declared.Transform.{Transform}
 use Rattle.pose.specs.declared.TransformRead.{TransformRead}
 use Rattle.pose.specs.Words.{wordBytes}
 use Rattle.pose.specs.Transform.{WellTransform, IsTransform, transformFault, transformAt, transformOf, transformWords, transformWritten, transformOut, Columns, Transforms}
-use Rattle.pose.proofs.Laws.{length-wordBytes, words-read, words-back, words-unique, words-append, transform-length, transform-accepted, transform-well, transform-read}
+use Rattle.pose.proofs.Laws.{length-wordBytes, words-read, words-back, words-unique, words-append, transform-length, transform-accepted, transform-well, transform-read, transform-refused}
 
 answered : (c : List ℕ) → transformOf c .number ≡ transformFault c
 unfolding transformOf
@@ -127,6 +127,7 @@ transforms =
       answered = answered;
       read = read;
       handed = handed;
+      no-words = transform-refused;
       written-back = λ c out b h k. (written-wrote _ _ (room-enough _ (length out) k), written-back c out b h k);
       read-back = read-back;
       number = number;

@@ -1,12 +1,13 @@
--- Contents given byte by byte, and the words in them: the order of the words is fixed here.
+-- Contents given byte by byte, and the words in them: the order of the words is fixed here, and so are the lengths and what a refusal hands out.
 use Prim.Native.Nat.{ℕ}
 use mathlib.Core.Path.{_≡_}
-use mathlib.Core.List.{List, [], _∷_, _++_}
+use mathlib.Core.List.{List, [], _∷_, _++_, map}
 use lib.ListN.{take, replicate}
+use Rattle.fields.specs.declared.Written.{Written}
 use Rattle.fields.specs.declared.Written.the-variants.{Wrote, Refused}
 use Rattle.pose.specs.declared.Transform.{Transform}
-use Rattle.pose.specs.Transform.{noTransform, transformOf, transformWritten, transformOut}
-use Rattle.pose.specs.Position.{positionOf, positionWritten, positionOut}
+use Rattle.pose.specs.Transform.{transformFault, transformOf, transformWritten, transformOut}
+use Rattle.pose.specs.Position.{positionFault, positionOf, positionWritten, positionOut}
 
 -- the bytes of the words 1 to 12
 abbrev pub twelveWords : List ℕ
@@ -22,6 +23,11 @@ abbrev pub inColumns : Transform
 inColumns =
     record { column1 = 1 ∷ 2 ∷ 3 ∷ []; column2 = 4 ∷ 5 ∷ 6 ∷ []; column3 = 7 ∷ 8 ∷ 9 ∷ []; translation = 10 ∷ 11 ∷ 12 ∷ [] }
 
+-- twelve zeros
+abbrev pub zeros : Transform
+zeros =
+    record { column1 = 0 ∷ 0 ∷ 0 ∷ []; column2 = 0 ∷ 0 ∷ 0 ∷ []; column3 = 0 ∷ 0 ∷ 0 ∷ []; translation = 0 ∷ 0 ∷ 0 ∷ [] }
+
 -- minus zero, a NaN, and all bits set
 abbrev pub anyBits : List ℕ
 anyBits = 0x80 ∷ 0 ∷ 0 ∷ 0 ∷ 0x7F ∷ 0xC0 ∷ 0 ∷ 1 ∷ 0xFF ∷ 0xFF ∷ 0xFF ∷ 0xFF ∷ []
@@ -31,7 +37,8 @@ pub record Examples : Type 0 where
   pub read : transformOf twelveWords ≡ record { number = 0; transform = inColumns }
   pub wrote : transformWritten 50 ≡ Wrote 48
   pub written : transformOut inColumns (replicate 50 5) ≡ twelveWords ++ (5 ∷ 5 ∷ [])
-  pub short : transformOf (take 47 twelveWords) ≡ record { number = 8; transform = noTransform }
+  pub short : transformOf (take 47 twelveWords) ≡ record { number = 8; transform = zeros }
+  pub long : transformOf (twelveWords ++ (0 ∷ [])) ≡ record { number = 8; transform = zeros }
   pub no-room : transformWritten 47 ≡ Refused 20
   -- a POSITION of 12, 24 and 28 bytes, and of 13
   pub position-12 : positionOf anyBits ≡ record { number = 0; count = 3; words = 0x80000000 ∷ 0x7FC00001 ∷ 0xFFFFFFFF ∷ 0 ∷ 0 ∷ 0 ∷ 0 ∷ [] }
@@ -41,3 +48,12 @@ pub record Examples : Type 0 where
   -- three words written, and four
   pub position-written : positionOut (0x80000000 ∷ 0x7FC00001 ∷ 0xFFFFFFFF ∷ []) (replicate 13 5) ≡ anyBits ++ (5 ∷ [])
   pub four-words : positionWritten (1 ∷ 2 ∷ 3 ∷ 4 ∷ []) 50 ≡ Refused 8
+  -- by the length: one float less, one byte less, one byte more
+  pub transform-lengths : map (λ n. transformFault (replicate n 0)) (0 ∷ 44 ∷ 47 ∷ 48 ∷ 49 ∷ []) ≡ 8 ∷ 8 ∷ 8 ∷ 0 ∷ 8 ∷ []
+  pub position-lengths : map (λ n. positionFault (replicate n 0)) (0 ∷ 8 ∷ 11 ∷ 12 ∷ 13 ∷ 16 ∷ 20 ∷ 23 ∷ 24 ∷ 25 ∷ 27 ∷ 28 ∷ 29 ∷ 32 ∷ [])
+      ≡ 8 ∷ 8 ∷ 8 ∷ 0 ∷ 8 ∷ 8 ∷ 8 ∷ 8 ∷ 0 ∷ 8 ∷ 8 ∷ 0 ∷ 8 ∷ 8 ∷ []
+  -- the writer by the number of words, with room; into one byte less than they take; 8 before 20
+  pub word-counts : map (λ n. positionWritten (replicate n 0) 50) (0 ∷ 2 ∷ 3 ∷ 5 ∷ 6 ∷ 7 ∷ 8 ∷ [])
+      ≡ Refused 8 ∷ Refused 8 ∷ Wrote 12 ∷ Refused 8 ∷ Wrote 24 ∷ Wrote 28 ∷ Refused 8 ∷ []
+  pub position-no-room : map (λ n. positionWritten (replicate 7 0) n) (27 ∷ 28 ∷ []) ≡ Refused 20 ∷ Wrote 28 ∷ []
+  pub eight-first : positionWritten (1 ∷ 2 ∷ 3 ∷ 4 ∷ []) 0 ≡ Refused 8

@@ -85,6 +85,8 @@ pub record Transforms : Type 0 where
   -- the reader hands out those words
   pub read : (ws : List ℕ) → WellTransform ws → transformWords (transformOf (wordBytes ws) .transform) ≡ ws
   pub handed : (c : List ℕ) → Bytes c → transformFault c ≡ 0 → wordBytes (transformWords (transformOf c .transform)) ≡ c
+  -- a refused content hands out no words
+  pub no-words : (c : List ℕ) → (transformFault c ≡ 0 → ⊥) → transformOf c ≡ record { number = transformFault c; transform = noTransform }
   -- the writer, given what was read and room for it, writes the same bytes and keeps those beyond
   pub written-back : (c out : List ℕ) → Bytes c → transformFault c ≡ 0 → 48 ≤ length out
       → (transformWritten (length out) ≡ Wrote 48) × (transformOut (transformOf c .transform) out ≡ c ++ drop 48 out)

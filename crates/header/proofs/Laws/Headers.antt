@@ -107,6 +107,7 @@ headers =
       short = λ s h. refused-with s 1 (fault-short s h) (λ e. omega arith);
       no-text = λ s h k. refused-with s 2 (fault-texts s h (λ e. k (texts-held s e))) (λ e. omega arith);
       too-long = λ s h t k. refused-with s 3 (above-limit s h t k) (λ e. omega arith);
+      nothing-handed = header-read-refused;
       names = written-names;
       number = written-as-read;
       answered-back = λ s room b h k.
