@@ -3,3 +3,4 @@
 pub mod Children
 pub mod Layout
 pub mod Bundles
+pub mod Examples

@@ -1,0 +1,30 @@
+-- The examples, by computation.
+use mathlib.Core.Path.{refl}
+use Rattle.fields.specs.Bytes.{sized}
+use Rattle.fields.specs.Lists.{all, flat}
+use Rattle.fields.specs.Numbers.{beVal, beBytes}
+use Rattle.fields.specs.Text.{isText, textOf, pastText, allZero, textOk, textClean, fieldOk, textBytes}
+use Rattle.bundle.specs.Children.{padded, childHeader, childName, childData, nameTable, encodeChildren}
+use Rattle.bundle.specs.Layout.{typesOk, nameOk, namesOk, tableOk, padOk, blockOk, dataOk, layoutOk, layoutFault}
+use Rattle.bundle.specs.Examples.{Examples}
+
+pub examples : Examples
+unfolding sized all flat beVal beBytes isText textOf pastText allZero textOk textClean fieldOk textBytes padded childHeader childName childData nameTable encodeChildren typesOk nameOk namesOk tableOk padOk blockOk dataOk layoutOk layoutFault
+examples =
+    record {
+      written = refl;
+      accepted = refl;
+      count-read = refl;
+      type-read = refl;
+      size-read = refl;
+      table-read = refl;
+      data-read = refl;
+      second-read = refl;
+      counts = refl;
+      types = refl;
+      sizes = refl;
+      tables = refl;
+      even-tables = refl;
+      other-data = refl;
+      no-children = refl;
+    }
