@@ -5,16 +5,35 @@ use Rattle.fields.specs.Lists.{all, flat}
 use Rattle.fields.specs.Numbers.{beVal, beBytes}
 use Rattle.fields.specs.Text.{isText, textOf, pastText, allZero, textOk, textClean, fieldOk, textBytes}
 use Rattle.pose.specs.Transform.{transformFault}
+use Rattle.pose.specs.Position.{wordsIn, positionFault}
+use Rattle.image.specs.Image.{scalarSize, kindOk, headerOk, ruleFault, headerOf, imageFault}
 use Rattle.bundle.specs.Children.{padded, childHeader, childName, childData, nameTable, encodeChildren}
 use Rattle.bundle.specs.Layout.{typesOk, nameOk, namesOk, tableOk, padOk, blockOk, dataOk, layoutOk, layoutFault}
 use Rattle.content.specs.Kinds.{kindOf}
-use Rattle.content.specs.Check.{childrenFault, bindFault}
+use Rattle.content.specs.Check.{childrenFault, bindFault, contentFault}
 use Rattle.content.specs.Examples.{Examples}
 
 pub examples : Examples
-unfolding same sized all flat beVal beBytes isText textOf pastText allZero textOk textClean fieldOk textBytes transformFault padded childHeader childName childData nameTable encodeChildren typesOk nameOk namesOk tableOk padOk blockOk dataOk layoutOk layoutFault kindOf childrenFault bindFault
+unfolding same sized all flat beVal beBytes isText textOf pastText allZero textOk textClean fieldOk textBytes transformFault wordsIn positionFault scalarSize kindOk headerOk ruleFault headerOf imageFault padded childHeader childName childData nameTable encodeChildren typesOk nameOk namesOk tableOk padOk blockOk dataOk layoutOk layoutFault kindOf childrenFault bindFault contentFault
 examples =
     record {
+      transform-text = refl;
+      position-text = refl;
+      image-text = refl;
+      bind-text = refl;
+      kinds = refl;
+      other-kinds = refl;
+      transforms = refl;
+      positions = refl;
+      images = refl;
+      binds = refl;
+      others = refl;
+      pose-first = refl;
+      image-first = refl;
+      bind-first = refl;
+      nested-first = refl;
+      nested-second = refl;
+      layout-first = refl;
       p7 = refl;
       p8-length = refl;
       p8 = refl;
@@ -26,4 +45,6 @@ examples =
       level-5 = refl;
       level-5-any-bytes = refl;
       level-4-layout = refl;
+      level-5-second = refl;
+      level-5-first = refl;
     }

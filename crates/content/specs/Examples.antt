@@ -1,11 +1,20 @@
--- Cases P7 and P8 of rule 8.1, and the levels of BIND (rule 4.15).
+-- The types by their texts; contents byte by byte with their numbers; cases P7 and P8; the levels of BIND and the order of faults.
 use Prim.Native.Nat.{ℕ}
+use Prim.Native.Char.{code}
+use Prim.Native.String.{String, [] as no-more, _∷_ as _before_}
 use mathlib.Core.Path.{_≡_}
-use mathlib.Core.List.{List, [], _∷_}
+use mathlib.Core.List.{List, [], _∷_, _++_, map}
 use lib.ListN.{length, replicate}
-use Rattle.bundle.specs.Children.{encodeChildren}
-use Rattle.content.specs.Kinds.{transformText, bindText}
-use Rattle.content.specs.Check.{bindFault, deepest}
+use Rattle.bundle.specs.Children.{Child, encodeChildren}
+use Rattle.content.specs.declared.Kind.{Kind}
+use Rattle.content.specs.declared.Kind.the-variants.{Transform, Position, Image, Bind, Other}
+use Rattle.content.specs.Kinds.{transformText, positionText, imageText, bindText, kindOf}
+use Rattle.content.specs.Check.{bindFault, contentFault, deepest}
+
+-- the codes of a text in quotes
+abbrev pub spelled : String → List ℕ
+spelled no-more = []
+spelled (c before s) = code c ∷ spelled s
 
 -- a BIND without children
 abbrev pub noChildren : List ℕ
@@ -19,8 +28,46 @@ oneChild t n s = encodeChildren (record { typeText = t; name = n; content = s } 
 abbrev pub within : List ℕ → List ℕ
 within s = oneChild bindText [] s
 
+-- children without a name; TRANSFORM, IMAGE and BIND of no bytes are 8, 9 and 10
+abbrev pub child : String → List ℕ → Child
+child t s = record { typeText = spelled t; name = []; content = s }
+
+abbrev pub noPose : Child
+noPose = child "TRANSFORM" []
+
+abbrev pub noImage : Child
+noImage = child "IMAGE" []
+
+abbrev pub noBind : Child
+noBind = child "BIND" []
+
+-- the number of a content of this type, of n zeros
+abbrev pub ofZeros : String → ℕ → ℕ
+ofZeros t n = contentFault deepest (spelled t) (replicate n 0)
+
 pub record Examples : Type 0 where
-  -- P7; P8 with the names A and AB; a TRANSFORM of one byte less
+  -- rule 4.1: the exact texts, and no other
+  pub transform-text : transformText ≡ spelled "TRANSFORM"
+  pub position-text : positionText ≡ spelled "POSITION"
+  pub image-text : imageText ≡ spelled "IMAGE"
+  pub bind-text : bindText ≡ spelled "BIND"
+  pub kinds : map (λ t. kindOf (spelled t)) ("TRANSFORM" ∷ "POSITION" ∷ "IMAGE" ∷ "BIND" ∷ []) ≡ Transform ∷ Position ∷ Image ∷ Bind ∷ []
+  pub other-kinds : map (λ t. kindOf (spelled t)) ("GET_TRANSFORM" ∷ "transform" ∷ "TRANSFOR" ∷ "POSITIONS" ∷ "BINDX" ∷ "STATUS" ∷ "" ∷ [])
+      ≡ replicate 7 Other
+  -- each type by its own rule; any other by none
+  pub transforms : map (ofZeros "TRANSFORM") (24 ∷ 47 ∷ 48 ∷ []) ≡ 8 ∷ 8 ∷ 0 ∷ []
+  pub positions : map (ofZeros "POSITION") (12 ∷ 24 ∷ 28 ∷ 48 ∷ []) ≡ 0 ∷ 0 ∷ 0 ∷ 8 ∷ []
+  pub images : map (ofZeros "IMAGE") (0 ∷ 71 ∷ 72 ∷ []) ≡ 9 ∷ 9 ∷ 9 ∷ []
+  pub binds : map (ofZeros "BIND") (0 ∷ 3 ∷ 4 ∷ 5 ∷ []) ≡ 10 ∷ 10 ∷ 0 ∷ 10 ∷ []
+  pub others : ofZeros "GET_TRANSFORM" 0 ∷ ofZeros "transform" 1 ∷ ofZeros "BINDX" 2 ∷ ofZeros "" 3 ∷ [] ≡ replicate 4 0
+  -- the first child's fault counts, with all that it holds; a fault of the layout comes before them
+  pub pose-first : bindFault deepest (encodeChildren (noPose ∷ noImage ∷ [])) ≡ 8
+  pub image-first : bindFault deepest (encodeChildren (noImage ∷ noPose ∷ [])) ≡ 9
+  pub bind-first : bindFault deepest (encodeChildren (noBind ∷ noPose ∷ [])) ≡ 10
+  pub nested-first : bindFault deepest (encodeChildren (child "BIND" (encodeChildren (noImage ∷ [])) ∷ noPose ∷ [])) ≡ 9
+  pub nested-second : bindFault deepest (encodeChildren (noPose ∷ child "BIND" (encodeChildren (noImage ∷ [])) ∷ [])) ≡ 8
+  pub layout-first : bindFault deepest (encodeChildren (noPose ∷ []) ++ (0 ∷ [])) ≡ 10
+  -- P7, and P8: one child TRANSFORM named "A", named "AB"
   pub p7 : bindFault deepest noChildren ≡ 0
   pub p8-length : length (oneChild transformText (65 ∷ []) (replicate 48 0)) ≡ 74
   pub p8 : bindFault deepest (oneChild transformText (65 ∷ []) (replicate 48 0)) ≡ 0
@@ -35,3 +82,6 @@ pub record Examples : Type 0 where
   pub level-5 : bindFault deepest (within (within (within (within noChildren)))) ≡ 11
   pub level-5-any-bytes : bindFault deepest (within (within (within (within (1 ∷ []))))) ≡ 11
   pub level-4-layout : bindFault deepest (within (within (within (1 ∷ [])))) ≡ 10
+  -- a BIND at level 5 behind a faulty child, and before one
+  pub level-5-second : bindFault deepest (within (within (within (encodeChildren (noPose ∷ noBind ∷ []))))) ≡ 8
+  pub level-5-first : bindFault deepest (within (within (within (encodeChildren (noBind ∷ noPose ∷ []))))) ≡ 11
