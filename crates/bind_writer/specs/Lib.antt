@@ -3,3 +3,4 @@
 pub mod Lists
 pub mod Writer
 pub mod BindWriters
+pub mod Examples

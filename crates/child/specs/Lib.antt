@@ -3,3 +3,4 @@
 pub mod Lookup
 pub mod Either
 pub mod Lookups
+pub mod Examples
