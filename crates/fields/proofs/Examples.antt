@@ -1,17 +1,22 @@
 -- The examples, by computation.
 use mathlib.Core.Path.{refl}
-use Rattle.fields.specs.Bytes.{sized}
+use Rattle.fields.specs.Bytes.{same, sized}
 use Rattle.fields.specs.Lists.{all}
 use Rattle.fields.specs.Numbers.{beVal, beBytes}
 use Rattle.fields.specs.Text.{isText, textOf, pastText, allZero, textOk, textClean, fieldOk, textBytes}
+use Rattle.fields.specs.Answer.{writtenOf, roomFault, outAfter}
 use Rattle.fields.specs.Examples.{Examples}
 
 pub examples : Examples
-unfolding sized all beVal beBytes isText textOf pastText allZero textOk textClean fieldOk textBytes
+unfolding same sized all beVal beBytes isText textOf pastText allZero textOk textClean fieldOk textBytes writtenOf roomFault outAfter
 examples =
     record {
       number-read = refl;
       number-written = refl;
+      numbers-read = refl;
+      written-1 = refl;
+      written-2 = refl;
+      written-8 = refl;
       number-past-end = refl;
       written-past-end = refl;
       text-padded = refl;
@@ -22,4 +27,17 @@ examples =
       field-full = refl;
       field-high = refl;
       field-resumed = refl;
+      text-12 = refl;
+      text-20 = refl;
+      texts = refl;
+      past-text = refl;
+      two-at-three = refl;
+      compared = refl;
+      faults = refl;
+      rooms = refl;
+      answers = refl;
+      answer-numbers = refl;
+      answer-counts = refl;
+      buffer = refl;
+      buffer-kept = refl;
     }

@@ -1,16 +1,30 @@
 -- What the definitions say of a few bytes, as one statement.
 use Prim.Native.Nat.{ℕ}
 use mathlib.Core.Path.{_≡_}
-use mathlib.Core.Bool.{true, false}
-use mathlib.Core.List.{[], _∷_}
+use mathlib.Core.Bool.{Bool, true, false}
+use mathlib.Core.List.{List, [], _∷_, map}
+use lib.ListN.{replicate}
 use lib.Seq.{sets}
+use Rattle.fields.specs.declared.Written.the-variants.{Wrote, Refused}
+use Rattle.fields.specs.Bytes.{part, same}
 use Rattle.fields.specs.Numbers.{beVal, beBytes, beAt}
-use Rattle.fields.specs.Text.{textOf, fieldOk, textBytes}
+use Rattle.fields.specs.Text.{isText, textOf, pastText, fieldOk, textBytes}
+use Rattle.fields.specs.Checks.{orElse}
+use Rattle.fields.specs.Answer.{writtenNumber, writtenCount, writtenOf, roomFault, outAfter}
+
+-- ten bytes, each with a value of its own
+abbrev pub ten : List ℕ
+ten = 0x10 ∷ 0x11 ∷ 0x12 ∷ 0x13 ∷ 0x14 ∷ 0x15 ∷ 0x16 ∷ 0x17 ∷ 0x18 ∷ 0x19 ∷ []
 
 pub record Examples : Type 0 where
   -- the most significant byte comes first
   pub number-read : beVal (0x01 ∷ 0x02 ∷ 0x03 ∷ 0x04 ∷ []) ≡ 0x01020304
   pub number-written : beBytes 4 0x01020304 ≡ 0x01 ∷ 0x02 ∷ 0x03 ∷ 0x04 ∷ []
+  -- of 1, 2, 4 and 8 bytes, at place 1
+  pub numbers-read : map (λ w. beAt w 1 ten) (1 ∷ 2 ∷ 4 ∷ 8 ∷ []) ≡ 0x11 ∷ 0x1112 ∷ 0x11121314 ∷ 0x1112131415161718 ∷ []
+  pub written-1 : sets (replicate {A = ℕ} 10 0) 1 (beBytes 1 0x11) ≡ 0 ∷ 0x11 ∷ replicate 8 0
+  pub written-2 : sets (replicate {A = ℕ} 10 0) 1 (beBytes 2 0x1112) ≡ 0 ∷ 0x11 ∷ 0x12 ∷ replicate 7 0
+  pub written-8 : sets (replicate {A = ℕ} 10 0) 1 (beBytes 8 0x1112131415161718) ≡ 0 ∷ 0x11 ∷ 0x12 ∷ 0x13 ∷ 0x14 ∷ 0x15 ∷ 0x16 ∷ 0x17 ∷ 0x18 ∷ 0 ∷ []
   -- past the end there is nothing to read, and nothing is written
   pub number-past-end : beAt 2 1 (0x01 ∷ 0x02 ∷ []) ≡ 0x02
   pub written-past-end : sets {A = ℕ} (0x01 ∷ 0x02 ∷ []) 1 (0x03 ∷ 0x04 ∷ []) ≡ 0x01 ∷ 0x03 ∷ []
@@ -24,3 +38,21 @@ pub record Examples : Type 0 where
   pub field-full : fieldOk (1 ∷ 127 ∷ []) ≡ true
   pub field-high : fieldOk (1 ∷ 128 ∷ 0 ∷ []) ≡ false
   pub field-resumed : fieldOk (1 ∷ 0 ∷ 1 ∷ []) ≡ false
+  -- TYPE and DEVICE_NAME: "Arm" in 12 bytes and in 20
+  pub text-12 : textBytes 12 (0x41 ∷ 0x72 ∷ 0x6d ∷ []) ≡ 0x41 ∷ 0x72 ∷ 0x6d ∷ 0 ∷ 0 ∷ 0 ∷ 0 ∷ 0 ∷ 0 ∷ 0 ∷ 0 ∷ 0 ∷ []
+  pub text-20 : textBytes 20 (0x41 ∷ 0x72 ∷ 0x6d ∷ []) ≡ 0x41 ∷ 0x72 ∷ 0x6d ∷ 0 ∷ 0 ∷ 0 ∷ 0 ∷ 0 ∷ 0 ∷ 0 ∷ 0 ∷ 0 ∷ 0 ∷ 0 ∷ 0 ∷ 0 ∷ 0 ∷ 0 ∷ 0 ∷ 0 ∷ []
+  -- texts: the border bytes, and no bytes; what follows a text's 0
+  pub texts : _≡_ {A = List Bool} (map isText ((0 ∷ []) ∷ (1 ∷ []) ∷ (127 ∷ []) ∷ (128 ∷ []) ∷ [] ∷ [])) (false ∷ true ∷ true ∷ false ∷ true ∷ [])
+  pub past-text : pastText (0x41 ∷ 0 ∷ 0x42 ∷ 0 ∷ []) ≡ 0x42 ∷ 0 ∷ []
+  -- two bytes at place 3; bytes compared with their like, with a part of them, and turned round
+  pub two-at-three : part 2 3 ten ≡ 0x13 ∷ 0x14 ∷ []
+  pub compared : _≡_ {A = List Bool} (map (same (1 ∷ 2 ∷ [])) ((1 ∷ 2 ∷ []) ∷ (1 ∷ []) ∷ (2 ∷ 1 ∷ []) ∷ (1 ∷ 2 ∷ 3 ∷ []) ∷ [])) (true ∷ false ∷ false ∷ false ∷ [])
+  -- the first fault of two
+  pub faults : orElse 0 0 ∷ orElse 0 9 ∷ orElse 8 0 ∷ orElse 8 9 ∷ [] ≡ 0 ∷ 9 ∷ 8 ∷ 8 ∷ []
+  -- a writer's answers: three bytes into 3 and into 2, and with a fault; the numbers and counts; the buffer
+  pub rooms : map (roomFault 3) (2 ∷ 3 ∷ 4 ∷ []) ≡ 20 ∷ 0 ∷ 0 ∷ []
+  pub answers : writtenOf 0 3 ∷ writtenOf 20 3 ∷ [] ≡ Wrote 3 ∷ Refused 20 ∷ []
+  pub answer-numbers : map writtenNumber (Wrote 3 ∷ Refused 20 ∷ []) ≡ 0 ∷ 20 ∷ []
+  pub answer-counts : map writtenCount (Wrote 3 ∷ Refused 20 ∷ []) ≡ 3 ∷ 0 ∷ []
+  pub buffer : outAfter 0 (1 ∷ 2 ∷ 3 ∷ []) (5 ∷ 5 ∷ 5 ∷ 5 ∷ []) ≡ 1 ∷ 2 ∷ 3 ∷ 5 ∷ []
+  pub buffer-kept : outAfter 20 (1 ∷ 2 ∷ 3 ∷ []) (5 ∷ 5 ∷ []) ≡ 5 ∷ 5 ∷ []
