@@ -1,3 +1,4 @@
+pub mod Below
 pub mod Body
 pub mod Stream
 pub mod Read

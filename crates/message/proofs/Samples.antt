@@ -1,0 +1,117 @@
+-- The samples, by computation; the largest bodies by the lengths of their parts.
+use Prim.Native.Nat.{ℕ, _+_, _^_}
+use mathlib.Core.Path.{_≡_, refl, sym, ap, _∙_}
+use mathlib.Core.Logic.{inl, inr}
+use mathlib.Core.List.{List, [], _∷_, append-nil}
+use native.Mathlib.Omega.{arith}
+use Rattle.fields.specs.Bytes.{same, sized}
+use Rattle.fields.specs.Lists.{all, flat}
+use Rattle.fields.specs.Numbers.{beVal, beBytes}
+use Rattle.fields.specs.Text.{isText, textOf, pastText, allZero, textOk, textClean, fieldOk, textBytes}
+use Rattle.fields.specs.Answer.{writtenOf, roomFault, outAfter}
+use Rattle.crc64.specs.Crc.{bitStep, run, bitAt, bitsOf, bits, crcOf}
+use Rattle.header.specs.Header.{encodeHeader}
+use Rattle.header.specs.Check.{headerOf, shortFault, textsFault, limitFault, headerFault, namesFault}
+use Rattle.metadata.specs.Metadata.{entryHeader, entryData, encodeMetadata, WellMetadata}
+use Rattle.metadata.specs.Check.{entryOk, entriesOk, sectionOk, metadataFault}
+use Rattle.pose.specs.Words.{wordBytes}
+use Rattle.pose.specs.Transform.{transformFault}
+use Rattle.content.specs.Kinds.{transformText, kindOf}
+use Rattle.content.specs.Check.{contentFault}
+use Rattle.content.specs.Tree as tree
+use Rattle.content.specs.Tree.{Opaque}
+use Rattle.message.specs.Body.{encodeBody}
+use Rattle.message.specs.Message.{encodeParts, encode, WellFormed}
+use Rattle.message.specs.Check.{extendedOk, bodyFault, placesOf, wholeFault, versionFault, crcFault, sectionsFault, bodyChecks, frontFault, numberOf, stepOf, readOf}
+use Rattle.message.specs.Writer.{fits, fitFault, sectionsChecks, writeChecks, writeFault, messageWritten, messageOut}
+use Rattle.message.proofs.Laws.Below.{each-below, bytes-below}
+use Rattle.fields.proofs.Laws.Text.{is-text}
+use Rattle.message.specs.Samples.{armMessage, armWords, statusText, probeText, probeMessage, Samples}
+
+opaque : Opaque statusText
+opaque =
+    record {
+      no-transform = λ e. let z : _≡_ {A = ℕ} 83 84 = cc in omega arith;
+      no-position = λ e. let z : _≡_ {A = ℕ} 83 80 = cc in omega arith;
+      no-image = λ e. let z : _≡_ {A = ℕ} 83 73 = cc in omega arith;
+      no-bind = λ e. let z : _≡_ {A = ℕ} 83 66 = cc in omega arith;
+    }
+
+arm-well : WellFormed armMessage
+unfolding encodeMetadata WellMetadata tree.WellFormed tree.encode encodeBody wordBytes flat beBytes isText all
+arm-well =
+    record {
+      texts =
+          record {
+            type-text = is-text transformText refl;
+            type-fits = omega arith;
+            name-text = is-text (armMessage .deviceName) refl;
+            name-fits = omega arith;
+          };
+      stamp-fits = omega arith;
+      sections = inl (refl, record { no-id = refl; no-further = refl; no-metadata = refl });
+      content = record { count = refl; words = each-below (256 ^ 4) armWords refl };
+      metadata = tt;
+      size-limit = omega arith;
+    }
+
+probe-well : WellFormed probeMessage
+unfolding encodeMetadata entryHeader entryData WellMetadata tree.WellFormed tree.encode encodeBody flat beBytes isText all
+probe-well =
+    record {
+      texts =
+          record { type-text = is-text statusText refl; type-fits = omega arith; name-text = is-text probeText refl; name-fits = omega arith };
+      stamp-fits = omega arith;
+      sections =
+          inr
+          (refl, record { id-fits = omega arith; further-bytes = bytes-below (probeMessage .further) refl; further-fits = omega arith; metadata-fits = omega arith });
+      content = (opaque, bytes-below (0x41 ∷ 0x42 ∷ 0x43 ∷ []) refl);
+      metadata = (omega arith, (record { key-text = is-text (75 ∷ []) refl; key-some = omega arith; key-fits = omega arith; encoding-fits = omega arith; value-bytes = bytes-below (0x61 ∷ 0x62 ∷ []) refl; value-fits = omega arith }, tt));
+      size-limit = omega arith;
+    }
+
+pub samples : Samples
+unfolding encodeParts encodeHeader encodeBody encodeMetadata entryHeader entryData tree.encode wordBytes flat beBytes textBytes sized crcOf bits bitsOf bitAt run bitStep readOf numberOf stepOf frontFault bodyChecks sectionsFault crcFault versionFault wholeFault placesOf bodyFault extendedOk contentFault kindOf transformFault metadataFault sectionOk entriesOk entryOk headerOf shortFault textsFault limitFault headerFault beVal textOf pastText allZero textOk textClean fieldOk isText all same messageWritten messageOut writeFault writeChecks sectionsChecks fitFault fits namesFault writtenOf roomFault outAfter
+samples =
+    record {
+      arm =
+          record {
+            well = arm-well;
+            bytes = refl;
+            read = refl;
+            read-more = refl;
+            type-in = refl;
+            name-in = refl;
+            further-in = refl;
+            content-in = refl;
+            metadata-in = refl;
+            written = refl;
+            out = refl;
+          };
+      probe =
+          record {
+            well = probe-well;
+            bytes = refl;
+            read = refl;
+            read-more = refl;
+            type-in = refl;
+            name-in = refl;
+            further-in = refl;
+            content-in = refl;
+            metadata-in = refl;
+            written = refl;
+            out = refl;
+          };
+      front = refl;
+      version-crc = refl;
+      extended = refl;
+      sections = refl;
+      names = refl;
+      parts = refl;
+      size-fields = refl;
+      largest = λ c e. rw e refl;
+      largest-extended = λ c e. rw (append-nil c, e) refl;
+      too-large = λ c e. (rw e refl, rw e refl);
+      too-large-extended = λ c e. rw (append-nil c, e) refl;
+      room = refl;
+    }

@@ -1,0 +1,277 @@
+-- Whole messages byte by byte, with what the reader answers to them and what the writer makes of their parts; and short inputs, one for each
+-- number of the reader and the writer. They fix the order of the fields, the limits and the order of the checks.
+use Prim.Native.Nat.{ℕ}
+use mathlib.Core.Path.{_≡_}
+use mathlib.Core.Bool.{Bool, true, false}
+use mathlib.Core.List.{List, [], _∷_, _++_, map}
+use lib.ListN.{length, take, replicate}
+use Rattle.fields.specs.declared.Written.{Written}
+use Rattle.fields.specs.declared.Written.the-variants.{Wrote, Refused}
+use Rattle.fields.specs.Bytes.{Bytes}
+use Rattle.fields.specs.Numbers.{beBytes}
+use Rattle.fields.specs.Text.{textBytes}
+use Rattle.fields.specs.Layout.{join}
+use Rattle.crc64.specs.Crc.{crcOf}
+use Rattle.metadata.specs.Metadata.{absent, section}
+use Rattle.content.specs.Kinds.{transformText}
+use Rattle.content.specs.Tree.{transform, other}
+use Rattle.message.specs.declared.Answer.{Answer}
+use Rattle.message.specs.declared.FixedFields.{FixedFields}
+use Rattle.message.specs.Message.{Message, WellFormed, encode}
+use Rattle.message.specs.Check.{refused, readOf, typeIn, nameIn, furtherIn, contentIn, metadataIn}
+use Rattle.message.specs.Writer.{given, fits, messageWritten, messageOut}
+
+-- ---- V 1: a TRANSFORM from the device "Arm"
+
+abbrev pub armWords : List ℕ
+armWords =
+    0x20212223
+    ∷ 0x24252627
+    ∷ 0x28292A2B
+    ∷ 0x2C2D2E2F
+    ∷ 0x30313233
+    ∷ 0x34353637
+    ∷ 0x38393A3B
+    ∷ 0x3C3D3E3F
+    ∷ 0x40414243
+    ∷ 0x44454647
+    ∷ 0x48494A4B
+    ∷ 0x4C4D4E4F
+    ∷ []
+
+abbrev pub armMessage : Message
+armMessage =
+    record {
+      version = 1;
+      deviceName = 65 ∷ 114 ∷ 109 ∷ [];
+      timeStamp = 0x0102030405060708;
+      id = 0;
+      further = [];
+      content = transform armWords;
+      metadata = absent;
+    }
+
+abbrev pub armContent : List ℕ
+armContent =
+    join
+    ((32 ∷ 33 ∷ 34 ∷ 35 ∷ 36 ∷ 37 ∷ 38 ∷ 39 ∷ 40 ∷ 41 ∷ 42 ∷ 43 ∷ 44 ∷ 45 ∷ 46 ∷ 47 ∷ [])
+    ∷ (48 ∷ 49 ∷ 50 ∷ 51 ∷ 52 ∷ 53 ∷ 54 ∷ 55 ∷ 56 ∷ 57 ∷ 58 ∷ 59 ∷ 60 ∷ 61 ∷ 62 ∷ 63 ∷ [])
+    ∷ (64 ∷ 65 ∷ 66 ∷ 67 ∷ 68 ∷ 69 ∷ 70 ∷ 71 ∷ 72 ∷ 73 ∷ 74 ∷ 75 ∷ 76 ∷ 77 ∷ 78 ∷ 79 ∷ [])
+    ∷ [])
+
+-- V, TYPE, DEVICE_NAME, TIME_STAMP, BODY_SIZE, CRC; the content
+abbrev pub armBytes : List ℕ
+armBytes =
+    join
+    ((0 ∷ 1 ∷ [])
+    ∷ (84 ∷ 82 ∷ 65 ∷ 78 ∷ 83 ∷ 70 ∷ 79 ∷ 82 ∷ 77 ∷ 0 ∷ 0 ∷ 0 ∷ [])
+    ∷ (65 ∷ 114 ∷ 109 ∷ 0 ∷ 0 ∷ 0 ∷ 0 ∷ 0 ∷ 0 ∷ 0 ∷ 0 ∷ 0 ∷ 0 ∷ 0 ∷ 0 ∷ 0 ∷ 0 ∷ 0 ∷ 0 ∷ 0 ∷ [])
+    ∷ (1 ∷ 2 ∷ 3 ∷ 4 ∷ 5 ∷ 6 ∷ 7 ∷ 8 ∷ [])
+    ∷ (0 ∷ 0 ∷ 0 ∷ 0 ∷ 0 ∷ 0 ∷ 0 ∷ 48 ∷ [])
+    ∷ (0x6E ∷ 0x8B ∷ 0x65 ∷ 0xFE ∷ 0xC8 ∷ 0x0C ∷ 0x79 ∷ 0x8D ∷ [])
+    ∷ armContent
+    ∷ [])
+
+abbrev pub armAnswer : Answer
+armAnswer =
+    record {
+      number = 0;
+      step = 106;
+      version = 1;
+      «type_len» = 9;
+      «name_len» = 3;
+      «time_stamp» = 0x0102030405060708;
+      id = 0;
+      «further_at» = 58;
+      «further_len» = 0;
+      «content_at» = 58;
+      «content_len» = 48;
+      «metadata_at» = 106;
+      «metadata_len» = 0;
+    }
+
+-- ---- V 2: a STATUS from the device "Probe", with two further bytes, three bytes of content, and metadata with the key "K"
+
+abbrev pub statusText : List ℕ
+statusText = 83 ∷ 84 ∷ 65 ∷ 84 ∷ 85 ∷ 83 ∷ []
+
+abbrev pub probeText : List ℕ
+probeText = 80 ∷ 114 ∷ 111 ∷ 98 ∷ 101 ∷ []
+
+abbrev pub probeMessage : Message
+probeMessage =
+    record {
+      version = 2;
+      deviceName = probeText;
+      timeStamp = 0x1112131415161718;
+      id = 0x21222324;
+      further = 0x31 ∷ 0x32 ∷ [];
+      content = other statusText (0x41 ∷ 0x42 ∷ 0x43 ∷ []);
+      metadata = section (record { key = 75 ∷ []; encoding = 0x5152; value = 0x61 ∷ 0x62 ∷ [] } ∷ []);
+    }
+
+-- INDEX_COUNT, KEY_SIZE, VALUE_ENCODING, VALUE_SIZE, the key and the value
+abbrev pub probeMetadata : List ℕ
+probeMetadata = 0 ∷ 1 ∷ 0 ∷ 1 ∷ 0x51 ∷ 0x52 ∷ 0 ∷ 0 ∷ 0 ∷ 2 ∷ 75 ∷ 0x61 ∷ 0x62 ∷ []
+
+-- V, TYPE, DEVICE_NAME, TIME_STAMP, BODY_SIZE, CRC; EXT_HEADER_SIZE and METADATA_SIZE, MSG_ID, reserved, further bytes; content; metadata
+abbrev pub probeBytes : List ℕ
+probeBytes =
+    join
+    ((0 ∷ 2 ∷ [])
+    ∷ (83 ∷ 84 ∷ 65 ∷ 84 ∷ 85 ∷ 83 ∷ 0 ∷ 0 ∷ 0 ∷ 0 ∷ 0 ∷ 0 ∷ [])
+    ∷ (80 ∷ 114 ∷ 111 ∷ 98 ∷ 101 ∷ 0 ∷ 0 ∷ 0 ∷ 0 ∷ 0 ∷ 0 ∷ 0 ∷ 0 ∷ 0 ∷ 0 ∷ 0 ∷ 0 ∷ 0 ∷ 0 ∷ 0 ∷ [])
+    ∷ (0x11 ∷ 0x12 ∷ 0x13 ∷ 0x14 ∷ 0x15 ∷ 0x16 ∷ 0x17 ∷ 0x18 ∷ [])
+    ∷ (0 ∷ 0 ∷ 0 ∷ 0 ∷ 0 ∷ 0 ∷ 0 ∷ 30 ∷ [])
+    ∷ (0x33 ∷ 0x65 ∷ 0xAF ∷ 0x01 ∷ 0xA9 ∷ 0x13 ∷ 0x2C ∷ 0x66 ∷ [])
+    ∷ (0 ∷ 14 ∷ 0 ∷ 13 ∷ [])
+    ∷ (0x21 ∷ 0x22 ∷ 0x23 ∷ 0x24 ∷ [])
+    ∷ (0 ∷ 0 ∷ 0 ∷ 0 ∷ [])
+    ∷ (0x31 ∷ 0x32 ∷ [])
+    ∷ (0x41 ∷ 0x42 ∷ 0x43 ∷ [])
+    ∷ probeMetadata
+    ∷ [])
+
+abbrev pub probeAnswer : Answer
+probeAnswer =
+    record {
+      number = 0;
+      step = 88;
+      version = 2;
+      «type_len» = 6;
+      «name_len» = 5;
+      «time_stamp» = 0x1112131415161718;
+      id = 0x21222324;
+      «further_at» = 70;
+      «further_len» = 2;
+      «content_at» = 72;
+      «content_len» = 3;
+      «metadata_at» = 75;
+      «metadata_len» = 13;
+    }
+
+-- the message m has the bytes s, and the reader answers a to them, also where more bytes follow; the writer, given these arguments, writes
+-- them, and keeps the bytes beyond
+pub record Sample (m : Message) (s : List ℕ) (a : Answer) (f : FixedFields) (type name further content metadata : List ℕ) : Type 0 where
+  pub well : WellFormed m
+  pub bytes : encode m ≡ s
+  pub read : readOf s ≡ a
+  pub read-more : readOf (s ++ (7 ∷ [])) ≡ a
+  pub type-in : typeIn s a ≡ type
+  pub name-in : nameIn s a ≡ name
+  pub further-in : furtherIn s a ≡ further
+  pub content-in : contentIn s a ≡ content
+  pub metadata-in : metadataIn s a ≡ metadata
+  pub written : messageWritten (given f type name further content metadata) (length s) ≡ Wrote (length s)
+  pub out : messageOut (given f type name further content metadata) (replicate (length s) 255 ++ (7 ∷ [])) ≡ s ++ (7 ∷ [])
+
+-- ---- short streams
+
+-- 58 bytes: V 1 and this TYPE and BODY_SIZE
+abbrev pub headOf : List ℕ → ℕ → List ℕ
+headOf type size = join (beBytes 2 1 ∷ textBytes 12 type ∷ replicate 20 0 ∷ replicate 8 0 ∷ beBytes 8 size ∷ replicate 8 0 ∷ [])
+
+-- this V, TYPE, CRC and body
+abbrev pub streamOf : ℕ → List ℕ → ℕ → List ℕ → List ℕ
+streamOf version type crc body =
+    join (beBytes 2 version ∷ textBytes 12 type ∷ replicate 20 0 ∷ replicate 8 0 ∷ beBytes 8 (length body) ∷ beBytes 8 crc ∷ body ∷ [])
+
+-- the same with the body's own CRC
+abbrev pub soundOf : ℕ → List ℕ → List ℕ → List ℕ
+soundOf version type body = streamOf version type (crcOf body) body
+
+-- a body of V 2 with no content: the two sizes, MSG_ID 0, the last byte of the reserved word, and the metadata
+abbrev pub bodyWith : ℕ → ℕ → ℕ → List ℕ → List ℕ
+bodyWith extendedSize metadataSize reserved metadata =
+    0 ∷ extendedSize ∷ 0 ∷ metadataSize ∷ 0 ∷ 0 ∷ 0 ∷ 0 ∷ 0 ∷ 0 ∷ 0 ∷ reserved ∷ metadata
+
+abbrev pub answersTo : List (List ℕ) → List Answer
+answersTo ss = map readOf ss
+
+-- ---- short writes
+
+-- MSG_ID, further bytes, an empty TRANSFORM, metadata and room
+abbrev pub writes : ℕ → ℕ → List ℕ → List ℕ → ℕ → Written
+writes version id further metadata room =
+    messageWritten (given (record { version = version; «time_stamp» = 0; id = id }) transformText [] further [] metadata) room
+
+-- a TYPE and a DEVICE_NAME, and nothing else, in V 3
+abbrev pub writesNames : List ℕ → List ℕ → Written
+writesNames type name = messageWritten (given (record { version = 3; «time_stamp» = 0; id = 0 }) type name [] [] []) 0
+
+-- a content of the type "A"
+abbrev pub writesContent : ℕ → List ℕ → ℕ → Written
+writesContent version content room =
+    messageWritten (given (record { version = version; «time_stamp» = 0; id = 0 }) (65 ∷ []) [] [] content []) room
+
+-- what is accepted of `headOf [] 0`: V 1, no texts, no body
+abbrev pub emptyAnswer : Answer
+emptyAnswer =
+    record {
+      number = 0;
+      step = 58;
+      version = 1;
+      «type_len» = 0;
+      «name_len» = 0;
+      «time_stamp» = 0;
+      id = 0;
+      «further_at» = 58;
+      «further_len» = 0;
+      «content_at» = 58;
+      «content_len» = 0;
+      «metadata_at» = 58;
+      «metadata_len» = 0;
+    }
+
+pub record Samples : Type 0 where
+  pub arm : Sample armMessage armBytes armAnswer (record { version = 1; «time_stamp» = 0x0102030405060708; id = 0 })
+      transformText (65 ∷ 114 ∷ 109 ∷ []) [] armContent []
+  pub probe : Sample probeMessage probeBytes probeAnswer (record { version = 2; «time_stamp» = 0x1112131415161718; id = 0x21222324 })
+      statusText probeText (0x31 ∷ 0x32 ∷ []) (0x41 ∷ 0x42 ∷ 0x43 ∷ []) probeMetadata
+  -- ---- the reader, rule 5.2
+  -- 57 bytes that are no text field; 2 before 3; 3 before the 1 of the whole; the largest body; no body
+  pub front : answersTo
+      (take 57 (headOf (0 ∷ 65 ∷ []) 0)
+      ∷ headOf (0 ∷ 65 ∷ []) 16777217
+      ∷ headOf [] 16777217
+      ∷ headOf [] 16777216
+      ∷ headOf [] 1
+      ∷ headOf [] 0
+      ∷ [])
+      ≡ refused 1 0 ∷ refused 2 0 ∷ refused 3 0 ∷ refused 1 0 ∷ refused 1 0 ∷ emptyAnswer ∷ []
+  -- 4 before 5: V 0, 3 and 256 with another CRC; 5 before 6: in V 2 a body of one byte with another CRC
+  pub version-crc : answersTo (streamOf 0 [] 1 (0 ∷ []) ∷ streamOf 3 [] 1 (0 ∷ []) ∷ streamOf 256 [] 1 (0 ∷ []) ∷ streamOf 2 [] 1 (0 ∷ []) ∷ [])
+      ≡ refused 4 59 ∷ refused 4 59 ∷ refused 4 59 ∷ refused 5 59 ∷ []
+  -- 6: a body of 11; EXT_HEADER_SIZE 11; the reserved word; the sizes 13 and 0, 12 and 1 of a body of 12. 6 before 7: metadata of one byte too
+  pub extended : answersTo
+      (soundOf 2 transformText (replicate 11 0)
+      ∷ soundOf 2 transformText (bodyWith 11 0 0 [])
+      ∷ soundOf 2 transformText (bodyWith 12 0 1 [])
+      ∷ soundOf 2 transformText (bodyWith 13 0 0 [])
+      ∷ soundOf 2 transformText (bodyWith 12 1 0 [])
+      ∷ soundOf 2 transformText (bodyWith 12 1 1 (0 ∷ []))
+      ∷ [])
+      ≡ refused 6 69 ∷ refused 6 70 ∷ refused 6 70 ∷ refused 6 70 ∷ refused 6 70 ∷ refused 6 71 ∷ []
+  -- 7 before 8: metadata of one byte, beside an empty TRANSFORM; a section of no entries, and then no section, beside it
+  pub sections : answersTo
+      (soundOf 2 transformText (bodyWith 12 1 0 (0 ∷ []))
+      ∷ soundOf 2 transformText (bodyWith 12 2 0 (0 ∷ 0 ∷ []))
+      ∷ soundOf 2 transformText (bodyWith 12 0 0 [])
+      ∷ [])
+      ≡ refused 7 71 ∷ refused 8 72 ∷ refused 8 70 ∷ []
+  -- ---- the writer, rules 5.8, 5.9 and 5.11
+  -- 2: a TYPE of 13 bytes, with a byte 0, with a byte 128; a DEVICE_NAME of 21. 2 before 4; 4
+  pub names : writesNames (replicate 13 65) [] ∷ writesNames (0 ∷ []) [] ∷ writesNames (128 ∷ []) [] ∷ writesNames [] (replicate 21 65) ∷ writesNames (replicate 12 65) (replicate 20 127) ∷ []
+      ≡ Refused 2 ∷ Refused 2 ∷ Refused 2 ∷ Refused 2 ∷ Refused 4 ∷ []
+  -- 4 before 6: V 3 with a MSG_ID; 6: V 1 with a MSG_ID, further bytes, metadata. 6 before 7, 7 before 8, 8 before 20
+  pub parts : writes 3 1 [] [] 0 ∷ writes 1 1 [] [] 0 ∷ writes 1 0 (7 ∷ []) [] 0 ∷ writes 1 0 [] (0 ∷ []) 0 ∷ writes 2 1 [] (0 ∷ []) 0 ∷ writes 2 1 [] [] 0 ∷ []
+      ≡ Refused 4 ∷ Refused 6 ∷ Refused 6 ∷ Refused 6 ∷ Refused 7 ∷ Refused 8 ∷ []
+  -- the longest further bytes and metadata of V 2, and one byte more of each
+  pub size-fields : fits 2 0 65523 65535 ∷ fits 2 0 65524 0 ∷ fits 2 0 0 65536 ∷ [] ≡ true ∷ false ∷ false ∷ []
+  -- the largest body, and one byte more, in V 1 and in V 2; V 3 is judged after it
+  pub largest : (c : List ℕ) → length c ≡ 16777216 → writesContent 1 c 16777274 ≡ Wrote 16777274
+  pub largest-extended : (c : List ℕ) → length c ≡ 16777204 → writesContent 2 c 16777274 ≡ Wrote 16777274
+  pub too-large : (c : List ℕ) → length c ≡ 16777217 → (writesContent 1 c 0 ≡ Refused 3) × (writesContent 3 c 0 ≡ Refused 3)
+  pub too-large-extended : (c : List ℕ) → length c ≡ 16777205 → writesContent 2 c 0 ≡ Refused 3
+  -- 20: one byte of room short
+  pub room : writesContent 1 (7 ∷ []) 58 ∷ writesContent 1 (7 ∷ []) 59 ∷ [] ≡ Refused 20 ∷ Wrote 59 ∷ []
