@@ -5,3 +5,4 @@ pub mod Reading
 pub mod Summary
 pub mod History
 pub mod Examples
+pub mod Books

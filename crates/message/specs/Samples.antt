@@ -1,10 +1,10 @@
 -- Whole messages byte by byte, with what the reader answers to them and what the writer makes of their parts; and short inputs, one for each
 -- number of the reader and the writer. They fix the order of the fields, the limits and the order of the checks.
-use Prim.Native.Nat.{ℕ}
+use Prim.Native.Nat.{ℕ, _-_}
 use mathlib.Core.Path.{_≡_}
 use mathlib.Core.Bool.{Bool, true, false}
 use mathlib.Core.List.{List, [], _∷_, _++_, map}
-use lib.ListN.{length, take, replicate}
+use lib.ListN.{length, take, drop, replicate}
 use Rattle.fields.specs.declared.Written.{Written}
 use Rattle.fields.specs.declared.Written.the-variants.{Wrote, Refused}
 use Rattle.fields.specs.Bytes.{Bytes}
@@ -157,6 +157,10 @@ pub record Sample (m : Message) (s : List ℕ) (a : Answer) (f : FixedFields) (t
   pub bytes : encode m ≡ s
   pub read : readOf s ≡ a
   pub read-more : readOf (s ++ (7 ∷ [])) ≡ a
+  -- without its last byte; with another last byte; as V 3
+  pub cut-short : readOf (take (length s - 1) s) ≡ refused 1 0
+  pub damaged : readOf (take (length s - 1) s ++ (0 ∷ [])) ≡ refused 5 (length s)
+  pub version-3 : readOf (0 ∷ 3 ∷ drop 2 s) ≡ refused 4 (length s)
   pub type-in : typeIn s a ≡ type
   pub name-in : nameIn s a ≡ name
   pub further-in : furtherIn s a ≡ further

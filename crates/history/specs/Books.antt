@@ -1,0 +1,120 @@
+-- Examples of the book: the number of each call on books that are written out, and the book after it, with any reader of demand 2. They
+-- fix the numbers, the limits and the order of the checks (rules 7.3 to 7.8).
+use Prim.Native.Nat.{ℕ, zero, suc}
+use mathlib.Core.Path.{_≡_}
+use mathlib.Core.Bool.{Bool, true, false}
+use mathlib.Core.List.{List, [], _∷_, _++_, map}
+use lib.ListN.{take, replicate}
+use Rattle.content.specs.Kinds.{transformText, positionText}
+use Rattle.message.specs.Samples.{armMessage, armBytes, probeBytes}
+use Rattle.history.specs.Calls.{Call, add, linkUp, linkDown, message, look}
+use Rattle.history.specs.Reading.{Reading, noMessage, leftOver, oneMessage, Reader}
+use Rattle.history.specs.Summary.{Entry, Summary, freshSummary, numberOn, next, summaryOf}
+use Rattle.history.specs.Examples.{nameOf}
+
+-- ---- the books
+
+abbrev pub bookOf : List Entry → Bool → ℕ → Summary
+bookOf tiles up clock = record { tiles = tiles; up = up; clock = clock }
+
+-- a tile with this type and name, and the hold time 500
+abbrev pub tileOf : List ℕ → List ℕ → Entry
+tileOf type name = record { typeText = type; name = name; holdTime = 500 }
+
+-- n TRANSFORM tiles; their names have 1 to n bytes
+abbrev pub tilesTo : ℕ → List Entry
+tilesTo zero = []
+tilesTo (suc n) = tilesTo n ++ (tileOf transformText (nameOf (suc n)) ∷ [])
+
+-- the name "Arm"
+abbrev pub armName : List ℕ
+armName = 65 ∷ 114 ∷ 109 ∷ []
+
+-- one tile: TRANSFORM, "Arm"
+abbrev pub armTiles : List Entry
+armTiles = tileOf transformText armName ∷ []
+
+-- ---- what the bytes of message calls are
+
+-- the message from "Arm" with another last byte
+abbrev pub damagedBytes : List ℕ
+damagedBytes = take 105 armBytes ++ (0 ∷ [])
+
+-- 57 bytes; another CRC; a message and one byte more; one message
+pub record Read (R : Reader) : Type 0 where
+  pub short : R .read (take 57 armBytes) ≡ noMessage 1
+  pub damaged : R .read damagedBytes ≡ noMessage 5
+  pub more : R .read (armBytes ++ (7 ∷ [])) ≡ leftOver
+  pub other-more : R .read (probeBytes ++ (7 ∷ [])) ≡ leftOver
+  pub arm : R .read armBytes ≡ oneMessage armMessage
+
+module _ (R : Reader) where
+  -- the numbers of these calls, each made on the same book
+  abbrev pub numbersOn : Summary → List Call → List ℕ
+  numbersOn b cs = map (numberOn R b) cs
+
+  -- the books after them
+  abbrev pub booksAfter : Summary → List Call → List Summary
+  booksAfter b cs = map (next R b) cs
+
+  pub record OnBooks : Type 0 where
+    -- fifteen tiles: there is room for a sixteenth; another type is another tile; 17; 16 before 17
+    pub fifteen : numbersOn (bookOf (tilesTo 15) false 0)
+        (add transformText (nameOf 16) 500 ∷ add positionText (nameOf 15) 500 ∷ add transformText (nameOf 15) 500 ∷ add transformText (nameOf 15) 0 ∷ [])
+        ≡ 0 ∷ 0 ∷ 17 ∷ 16 ∷ []
+    -- sixteen: 18; 17 before 18, of the first tile and the last; 16 before 18
+    pub sixteen : numbersOn (bookOf (tilesTo 16) false 0)
+        (add transformText (nameOf 17) 500 ∷ add transformText (nameOf 1) 500 ∷ add transformText (nameOf 16) 500 ∷ add transformText (nameOf 17) 0 ∷ [])
+        ≡ 18 ∷ 17 ∷ 17 ∷ 16 ∷ []
+    -- link calls: 15
+    pub links : numbersOn (bookOf armTiles true 1200) (linkUp 1199 ∷ linkUp 1200 ∷ linkDown 1199 ∷ linkDown 1200 ∷ []) ≡ 15 ∷ 0 ∷ 15 ∷ 0 ∷ []
+    -- message calls while the link is up: 15; the reader's number; 12, also where no tile has its name and type; 13; it counts
+    pub messages-up : numbersOn (bookOf armTiles true 1200)
+        (message 1199 damagedBytes
+        ∷ message 1200 (take 57 armBytes)
+        ∷ message 1200 damagedBytes
+        ∷ message 1200 (armBytes ++ (7 ∷ []))
+        ∷ message 1200 (probeBytes ++ (7 ∷ []))
+        ∷ message 1200 armBytes
+        ∷ [])
+        ≡ 15 ∷ 1 ∷ 5 ∷ 12 ∷ 12 ∷ 0 ∷ []
+    -- while it is down: 15 before 14; 14 before the reader's number, before 12 and 13
+    pub messages-down : numbersOn (bookOf armTiles false 1200)
+        (message 1199 armBytes ∷ message 1200 armBytes ∷ message 1200 damagedBytes ∷ message 1200 (armBytes ++ (7 ∷ [])) ∷ [])
+        ≡ 15 ∷ 14 ∷ 14 ∷ 14 ∷ []
+    -- no tile has its name and type: no tile at all; another type; another name
+    pub messages-unknown : numberOn R (bookOf [] true 0) (message 0 armBytes)
+        ∷ numberOn R (bookOf (tileOf positionText armName ∷ []) true 0) (message 0 armBytes)
+        ∷ numberOn R (bookOf (tileOf transformText (nameOf 3) ∷ []) true 0) (message 0 armBytes)
+        ∷ []
+        ≡ 13 ∷ 13 ∷ 13 ∷ []
+    -- looks: tile 15 of sixteen; 19; 19 before 15; 15. The link does not matter
+    pub looks : numbersOn (bookOf (tilesTo 16) false 1200) (look 15 1200 ∷ look 16 1200 ∷ look 16 1199 ∷ look 15 1199 ∷ [])
+        ≡ 0 ∷ 19 ∷ 19 ∷ 15 ∷ []
+    -- what is noted: an add's tile stands after the others; link and clock of a link call; the clock of a message that counts; nothing of a look
+    pub added : next R (bookOf armTiles true 1200) (add positionText armName 60000)
+        ≡ bookOf (tileOf transformText armName ∷ record { typeText = positionText; name = armName; holdTime = 60000 } ∷ []) true 1200
+    pub linked : booksAfter (bookOf armTiles true 1200) (linkUp 1300 ∷ linkDown 1300 ∷ []) ≡ bookOf armTiles true 1300 ∷ bookOf armTiles false 1300 ∷ []
+    pub counted : booksAfter (bookOf armTiles true 1200) (message 1300 armBytes ∷ look 0 1300 ∷ [])
+        ≡ bookOf armTiles true 1300 ∷ bookOf armTiles true 1200 ∷ []
+    -- nothing of a refused call: 17; 15 and 15; 15, 5 and 12; 19
+    pub refused : booksAfter (bookOf armTiles true 1200)
+        (add transformText armName 500
+        ∷ linkUp 1199
+        ∷ linkDown 1199
+        ∷ message 1199 armBytes
+        ∷ message 1300 damagedBytes
+        ∷ message 1300 (armBytes ++ (7 ∷ []))
+        ∷ look 1 1300
+        ∷ [])
+        ≡ replicate 7 (bookOf armTiles true 1200)
+    -- a sequence: a message while the link is down, an add, a link up, a message, a look, another add
+    pub after : summaryOf R
+        (message 900 armBytes ∷ add transformText armName 500 ∷ linkUp 1000 ∷ message 1200 armBytes ∷ look 0 1700 ∷ add transformText (nameOf 1) 500 ∷ [])
+        ≡ bookOf (tileOf transformText armName ∷ tileOf transformText (nameOf 1) ∷ []) true 1200
+
+pub record Books : Type 0 where
+  -- rule 7.1
+  pub fresh : freshSummary ≡ bookOf [] false 0
+  pub reads : (R : Reader) → Read R
+  pub on-books : (R : Reader) → OnBooks R
