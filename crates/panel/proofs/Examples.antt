@@ -1,19 +1,24 @@
--- Cases P10 to P12, and the cable.
+-- P10 to P12 of document 01, for every message from Arm and for one byte by byte.
 use Prim.Native.Nat.{ℕ, _≤_}
-use mathlib.Core.Path.{_≡_, refl, ap, ap₂, _∙_}
+use mathlib.Core.Path.{_≡_, refl, sym, ap, ap₂, _∙_}
 use mathlib.Core.Logic.{inl}
 use mathlib.Core.Bool.{true, cond}
 use mathlib.Core.List.{List, [], _∷_, map}
 use native.Mathlib.Omega.{arith}
 use lib.ListN.{length}
 use Rattle.fields.specs.Bytes.{same, sized}
-use Rattle.fields.specs.Lists.{all, any}
+use Rattle.fields.specs.Lists.{all, any, flat}
+use Rattle.fields.specs.Numbers.{beBytes}
 use Rattle.fields.specs.Text.{isText}
+use Rattle.pose.specs.Words.{wordBytes}
 use Rattle.content.specs.Kinds.{transformText}
+use Rattle.content.specs.Tree as tree
 use Rattle.content.specs.Check.{deepest}
 use Rattle.message.specs.Message.{Message, encode}
 use Rattle.message.specs.Check.{readOf}
 use Rattle.message.specs.Demand2.{Begins}
+use Rattle.message.specs.Samples.{armMessage, armBytes, armContent}
+use Rattle.message.proofs.Samples.{samples}
 use Rattle.message.proofs.Laws.Messages.{demand-2}
 use Rattle.history.specs.Calls.{add, linkUp, linkDown, message, look, Answer, refused, green, grey}
 use Rattle.history.specs.Summary.{isAllowed, allowedFault, clockFault}
@@ -24,7 +29,7 @@ use Rattle.panel.specs.declared.Panel.{Panel}
 use Rattle.panel.specs.Tiles.{valueOf, labelOf, countedFor, isTile}
 use Rattle.panel.specs.Calls.{labelIn, addFault, addOf, linkOf, readFault, messageFault, lookFault, lookOf}
 use Rattle.panel.specs.Demand3.{answerTo, panelNext, panelAfter}
-use Rattle.panel.specs.Examples.{armText, FromArm, armCalls, Examples}
+use Rattle.panel.specs.Examples.{armText, FromArm, armCalls, armBytesCalls, Examples}
 use Rattle.panel.proofs.Laws.Calls.{read-whole}
 use Rattle.history.proofs.Laws.Readings.{begins-one, one-step}
 use Rattle.panel.proofs.Laws.Contents.{bytesOf, pose-short, value-bytes}
@@ -77,6 +82,21 @@ module _ (m : Message) (f : FromArm m) where
   shown next a now e =
       ap (λ (p : Panel). answerTo (next p) (look 0 now)) counted-panel ∙ e ∙ ap a (value-bytes (valueFor m) short)
 
+-- ---- the message from Arm that is given byte by byte
+
+arm-from : FromArm armMessage
+arm-from = record { well = samples .arm .well; is-transform = refl; is-arm = refl }
+
+arm-value : valueFor armMessage ≡ armContent
+unfolding tree.encode wordBytes flat beBytes
+arm-value = refl
+
+arm-panel : panelAfter (armBytesCalls armBytes) ≡ countedPanel (valueOf armContent)
+arm-panel =
+    ap (λ (s : List ℕ). panelAfter (armBytesCalls s)) (sym (samples .arm .bytes))
+    ∙ counted-panel armMessage arm-from
+    ∙ ap (λ (c : List ℕ). countedPanel (valueOf c)) arm-value
+
 pub examples : Examples
 unfolding panelAfter addOf addFault linkOf allowedFault isAllowed clockFault lookOf lookFault same sized any isText all
 examples =
@@ -87,4 +107,15 @@ examples =
       p12 = λ m f. shown m f (λ p. panelNext p (linkUp 1400)) (grey 200) 1400 refl;
       loose-cable = λ m f. shown m f (λ p. panelNext p (linkDown 1400)) (grey 200) 1400 refl;
       reconnect = λ m f. shown m f (λ p. panelNext (panelNext p (linkDown 1300)) (linkUp 1400)) (grey 200) 1400 refl;
+      arm = arm-from;
+      arm-bytes = samples .arm .bytes;
+      arm-p10 = ap (λ (p : Panel). answerTo p (look 0 1700)) arm-panel;
+      arm-p11 = ap (λ (p : Panel). answerTo p (look 0 1701)) arm-panel;
+      arm-p11-before = ap (λ (p : Panel). answerTo p (look 0 1199)) arm-panel;
+      arm-p12 = ap (λ (p : Panel). answerTo (panelNext p (linkUp 1400)) (look 0 1400)) arm-panel;
+      arm-value = ap (λ (p : Panel). lookOf p 0 1700 .value) arm-panel;
+      short-value = refl;
+      refused-value = ap (λ (p : Panel). lookOf p 0 1199 .value) arm-panel;
+      not-there = ap (λ (p : Panel). answerTo p (look 1 1700)) arm-panel;
+      no-message = refl;
     }
