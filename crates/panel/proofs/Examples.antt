@@ -1,6 +1,6 @@
 -- P10 to P12 of document 01, for every message from Arm and for one byte by byte.
 use Prim.Native.Nat.{ℕ, _≤_}
-use mathlib.Core.Path.{_≡_, refl, sym, ap, ap₂, _∙_}
+use mathlib.Core.Path.{_≡_, refl, sym, ap, ap₂, subst, _∙_}
 use mathlib.Core.Logic.{inl}
 use mathlib.Core.Bool.{true, cond}
 use mathlib.Core.List.{List, [], _∷_, map}
@@ -25,12 +25,15 @@ use Rattle.history.specs.Summary.{isAllowed, allowedFault, clockFault}
 use Rattle.history.specs.History.{valueFor}
 use Rattle.panel.specs.declared.Label.{Label}
 use Rattle.panel.specs.declared.Value.{Value}
+use Rattle.panel.specs.declared.LookAnswer.{LookAnswer}
+use Rattle.panel.specs.declared.LookAnswer.the-variants as look-answer
 use Rattle.panel.specs.declared.Panel.{Panel}
+use Rattle.panel.specs.declared.CallResult.{CallResult}
 use Rattle.panel.specs.Tiles.{valueOf, labelOf, countedFor, isTile}
-use Rattle.panel.specs.Calls.{labelIn, addFault, addOf, linkOf, readFault, messageFault, lookFault, lookOf}
+use Rattle.panel.specs.Calls.{labelIn, addFault, addOf, linkOf, readFault, messageFault, messageOf, lookFault, lookOf}
 use Rattle.panel.specs.Demand3.{answerTo, panelNext, panelAfter}
-use Rattle.panel.specs.Examples.{armText, FromArm, armCalls, armBytesCalls, Examples}
-use Rattle.panel.proofs.Laws.Calls.{read-whole}
+use Rattle.panel.specs.Examples.{armText, FromArm, armCalls, armBytesCalls, ArmLook, armValue, zeroValue, Examples}
+use Rattle.panel.proofs.Laws.Calls.{message-accepted, read-whole}
 use Rattle.history.proofs.Laws.Readings.{begins-one, one-step}
 use Rattle.panel.proofs.Laws.Contents.{bytesOf, pose-short, value-bytes}
 use Rattle.panel.proofs.Laws.Faults.{panel-changed}
@@ -91,11 +94,16 @@ arm-value : valueFor armMessage ≡ armContent
 unfolding tree.encode wordBytes flat beBytes
 arm-value = refl
 
-arm-panel : panelAfter (armBytesCalls armBytes) ≡ countedPanel (valueOf armContent)
+arm-panel : panelAfter armBytesCalls ≡ countedPanel (valueOf armContent)
+unfolding panelAfter
 arm-panel =
-    ap (λ (s : List ℕ). panelAfter (armBytesCalls s)) (sym (samples .arm .bytes))
+    ap (λ (s : List ℕ). panelNext linkedPanel (message 1200 s)) (sym (samples .arm .bytes))
     ∙ counted-panel armMessage arm-from
     ∙ ap (λ (c : List ℕ). countedPanel (valueOf c)) arm-value
+
+arm-look : (i now : ℕ) (a : LookAnswer) (v : Value) → (let p = countedPanel (valueOf armContent) in lookOf p i now ≡ record { panel = p; answer = a; value = v })
+    → ArmLook i now a v
+arm-look i now a v = subst (λ (p : Panel). lookOf p i now ≡ record { panel = p; answer = a; value = v }) (sym arm-panel)
 
 pub examples : Examples
 unfolding panelAfter addOf addFault linkOf allowedFault isAllowed clockFault lookOf lookFault same sized any isText all
@@ -113,17 +121,18 @@ examples =
       arm-p11 = ap (λ (p : Panel). answerTo p (look 0 1701)) arm-panel;
       arm-p11-before = ap (λ (p : Panel). answerTo p (look 0 1199)) arm-panel;
       arm-p12 = ap (λ (p : Panel). answerTo (panelNext p (linkUp 1400)) (look 0 1400)) arm-panel;
-      arm-value = ap (λ (p : Panel). lookOf p 0 1700 .value) arm-panel;
       arm-added = refl;
       arm-twice = ap (λ (p : Panel). addOf p transformText armText 500 .answer) arm-panel;
-      arm-linked = ap (λ (p : Panel). linkOf true p 1199 .number) arm-panel;
-      arm-green = ap (λ (p : Panel). lookOf p 0 1700 .answer) arm-panel;
-      arm-grey = ap (λ (p : Panel). lookOf p 0 1701 .answer) arm-panel;
-      arm-early = ap (λ (p : Panel). lookOf p 0 1199 .answer) arm-panel;
-      arm-not-there = ap (λ (p : Panel). lookOf p 1 1199 .answer) arm-panel;
-      no-message = refl;
+      arm-late = ap (λ (p : Panel). linkOf true p 1199 .number) arm-panel;
+      arm-counted =
+          ap (λ (s : List ℕ). messageOf linkedPanel 1200 s .number) (sym (samples .arm .bytes))
+          ∙ ap (λ (r : CallResult). r .number) (sym (message-accepted linkedPanel 1200 (encode armMessage) (message-fault armMessage arm-from)));
+      arm-green = arm-look 0 1700 (look-answer.Green 500) armValue refl;
+      arm-grey = arm-look 0 1701 (look-answer.Grey 501) armValue refl;
+      arm-early = arm-look 0 1199 (look-answer.Refused 15) zeroValue refl;
+      arm-not-there = arm-look 1 1199 (look-answer.Refused 19) zeroValue refl;
+      arm-empty = refl;
       add-answers = refl;
       look-answers = refl;
       short-value = refl;
-      refused-value = ap (λ (p : Panel). lookOf p 0 1199 .value) arm-panel;
     }

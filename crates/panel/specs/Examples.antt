@@ -16,7 +16,7 @@ use Rattle.panel.specs.declared.AddAnswer.the-variants as add-answer
 use Rattle.panel.specs.declared.LookAnswer.{LookAnswer}
 use Rattle.panel.specs.declared.LookAnswer.the-variants as look-answer
 use Rattle.panel.specs.Tiles.{valueOf}
-use Rattle.panel.specs.Calls.{freshPanel, addOf, linkOf, lookOf}
+use Rattle.panel.specs.Calls.{freshPanel, addOf, linkOf, messageOf, lookOf}
 use Rattle.panel.specs.Answers.{addAnswer, callAnswer, lookAnswer}
 use Rattle.panel.specs.Demand3.{answerTo, panelAfter}
 
@@ -36,17 +36,21 @@ armCalls m = add transformText armText 500 ∷ linkUp 1000 ∷ message 1200 (enc
 abbrev pub looked : List Call → ℕ → Answer
 looked cs now = answerTo (panelAfter cs) (look 0 now)
 
--- the same calls with these bytes as the message
-abbrev pub armBytesCalls : List ℕ → List Call
-armBytesCalls s = add transformText armText 500 ∷ linkUp 1000 ∷ message 1200 s ∷ []
+-- the same calls with the bytes of a message from Arm
+abbrev pub armBytesCalls : List Call
+armBytesCalls = add transformText armText 500 ∷ linkUp 1000 ∷ message 1200 armBytes ∷ []
 
-abbrev pub valueLooked : List Call → ℕ → Value
-valueLooked cs now = lookOf (panelAfter cs) 0 now .value
+-- a look at tile i after them gives this answer and value, and the panel as it was
+abbrev pub ArmLook : ℕ → ℕ → LookAnswer → Value → Type 0
+ArmLook i now a v = lookOf (panelAfter armBytesCalls) i now ≡ record { panel = panelAfter armBytesCalls; answer = a; value = v }
 
-abbrev pub lookedAnswer : List Call → ℕ → ℕ → LookAnswer
-lookedAnswer cs i now = lookOf (panelAfter cs) i now .answer
+-- the values: the message's content; none; 01 02 03
+abbrev pub armValue : Value
+armValue = record { bytes = armContent; len = 48 }
 
--- the value 01 02 03
+abbrev pub zeroValue : Value
+zeroValue = record { bytes = replicate 48 0; len = 0 }
+
 abbrev pub threeBytes : Value
 threeBytes = record { bytes = 1 ∷ 2 ∷ 3 ∷ replicate 45 0; len = 3 }
 
@@ -58,23 +62,23 @@ pub record Examples : Type 0 where
   -- the cable comes loose; the cable is put back
   pub loose-cable : (m : Message) → FromArm m → looked (armCalls m ++ (linkDown 1400 ∷ [])) 1400 ≡ grey 200 (valueFor m)
   pub reconnect : (m : Message) → FromArm m → looked (armCalls m ++ (linkDown 1300 ∷ linkUp 1400 ∷ [])) 1400 ≡ grey 200 (valueFor m)
-  -- there is such a message, and these are its bytes: P10 to P12 of them, and the value as it is handed out
+  -- there is such a message, and these are its bytes; P10 to P12 of them
   pub arm : FromArm armMessage
   pub arm-bytes : encode armMessage ≡ armBytes
-  pub arm-p10 : looked (armBytesCalls armBytes) 1700 ≡ green 500 armContent
-  pub arm-p11 : looked (armBytesCalls armBytes) 1701 ≡ grey 501 armContent
-  pub arm-p11-before : looked (armBytesCalls armBytes) 1199 ≡ refused 15
-  pub arm-p12 : looked (armBytesCalls armBytes ++ (linkUp 1400 ∷ [])) 1400 ≡ grey 200 armContent
-  pub arm-value : valueLooked (armBytesCalls armBytes) 1700 ≡ record { bytes = armContent; len = 48 }
-  -- the answers as the code names them: of two adds, a link call and five looks
+  pub arm-p10 : looked armBytesCalls 1700 ≡ green 500 armContent
+  pub arm-p11 : looked armBytesCalls 1701 ≡ grey 501 armContent
+  pub arm-p11-before : looked armBytesCalls 1199 ≡ refused 15
+  pub arm-p12 : looked (armBytesCalls ++ (linkUp 1400 ∷ [])) 1400 ≡ grey 200 armContent
+  -- the same in the code's words: the add, and another; a link call; the message; looks
   pub arm-added : addOf freshPanel transformText armText 500 .answer ≡ add-answer.Added 0
-  pub arm-twice : addOf (panelAfter (armBytesCalls armBytes)) transformText armText 500 .answer ≡ add-answer.Refused 17
-  pub arm-linked : linkOf true (panelAfter (armBytesCalls armBytes)) 1199 .number ≡ 15
-  pub arm-green : lookedAnswer (armBytesCalls armBytes) 0 1700 ≡ look-answer.Green 500
-  pub arm-grey : lookedAnswer (armBytesCalls armBytes) 0 1701 ≡ look-answer.Grey 501
-  pub arm-early : lookedAnswer (armBytesCalls armBytes) 0 1199 ≡ look-answer.Refused 15
-  pub arm-not-there : lookedAnswer (armBytesCalls armBytes) 1 1199 ≡ look-answer.Refused 19
-  pub no-message : lookedAnswer (add transformText armText 500 ∷ []) 0 0 ≡ look-answer.Empty
+  pub arm-twice : addOf (panelAfter armBytesCalls) transformText armText 500 .answer ≡ add-answer.Refused 17
+  pub arm-late : linkOf true (panelAfter armBytesCalls) 1199 .number ≡ 15
+  pub arm-counted : messageOf (panelAfter (add transformText armText 500 ∷ linkUp 1000 ∷ [])) 1200 armBytes .number ≡ 0
+  pub arm-green : ArmLook 0 1700 (look-answer.Green 500) armValue
+  pub arm-grey : ArmLook 0 1701 (look-answer.Grey 501) armValue
+  pub arm-early : ArmLook 0 1199 (look-answer.Refused 15) zeroValue
+  pub arm-not-there : ArmLook 1 1199 (look-answer.Refused 19) zeroValue
+  pub arm-empty : lookOf (panelAfter (add transformText armText 500 ∷ [])) 0 0 .answer ≡ look-answer.Empty
   -- what these say
   pub add-answers : addAnswer (add-answer.Added 3) ∷ addAnswer (add-answer.Refused 17) ∷ callAnswer 0 ∷ callAnswer 15 ∷ []
       ≡ added 3 ∷ refused 17 ∷ accepted ∷ refused 15 ∷ []
@@ -84,6 +88,5 @@ pub record Examples : Type 0 where
       ∷ lookAnswer (look-answer.Refused 19) threeBytes
       ∷ []
       ≡ empty ∷ green 500 (1 ∷ 2 ∷ 3 ∷ []) ∷ grey 501 (1 ∷ 2 ∷ 3 ∷ []) ∷ refused 19 ∷ []
-  -- a value of three bytes, and no value
+  -- a value of three bytes, as a tile keeps it
   pub short-value : valueOf (1 ∷ 2 ∷ 3 ∷ []) ≡ threeBytes
-  pub refused-value : valueLooked (armBytesCalls armBytes) 1199 ≡ record { bytes = replicate 48 0; len = 0 }
