@@ -5,6 +5,7 @@ use mathlib.Core.List.{List, [], _∷_, _++_}
 use lib.ListN.{length, replicate}
 use Rattle.fields.specs.Bytes.{Bytes}
 use Rattle.fields.specs.Text.{Text}
+use Rattle.fields.specs.Layout.{join}
 use Rattle.crc64.specs.Crc.{crcOf}
 use Rattle.image.specs.Image.{imageFault}
 use Rattle.image.specs.Examples as image
@@ -14,10 +15,11 @@ use Rattle.content.specs.Examples.{oneChild}
 use Rattle.message.specs.Message.{Message}
 use Rattle.message.specs.Check.{readOf, contentIn}
 use Rattle.message.specs.Check as message
+use Rattle.message.specs.Samples.{armMessage, armContent}
 use Rattle.message.specs.Examples.{ofVersion2, getStatusText, body12}
 use Rattle.history.specs.Calls.{Call, linkUp, look, refused, green, grey}
 use Rattle.history.specs.History.{valueFor}
-use Rattle.panel.specs.Examples.{FromArm, armCalls, looked}
+use Rattle.panel.specs.Examples.{FromArm, armCalls, armBytesCalls, looked}
 
 -- ---- the inputs
 
@@ -29,9 +31,38 @@ bindOfTransform name = oneChild transformText name (replicate 48 0)
 abbrev pub imageOfBorder : ℕ → ℕ → ℕ → List ℕ
 imageOfBorder ri di dri = image.content (image.header 5 ri di dri) 24
 
--- P10's calls, its look, P11's two, and P12's link up
+-- P10's look, P11's two, and P12's link up
+abbrev pub looksAndLink : List Call
+looksAndLink = look 0 1700 ∷ look 0 1701 ∷ look 0 1199 ∷ linkUp 1400 ∷ []
+
+-- P10's calls, and those
 abbrev pub callsOfP12 : Message → List Call
-callsOfP12 m = armCalls m ++ (look 0 1700 ∷ look 0 1701 ∷ look 0 1199 ∷ linkUp 1400 ∷ [])
+callsOfP12 m = armCalls m ++ looksAndLink
+
+-- P5's message with the device name "Arm" and a MSG_ID: V, TYPE, DEVICE_NAME, TIME_STAMP, BODY_SIZE, CRC; the two sizes, MSG_ID, reserved
+abbrev pub statusBytes : List ℕ
+statusBytes =
+    join
+    ((0 ∷ 2 ∷ [])
+    ∷ (71 ∷ 69 ∷ 84 ∷ 95 ∷ 83 ∷ 84 ∷ 65 ∷ 84 ∷ 85 ∷ 83 ∷ 0 ∷ 0 ∷ [])
+    ∷ (65 ∷ 114 ∷ 109 ∷ replicate 17 0)
+    ∷ (1 ∷ 2 ∷ 3 ∷ 4 ∷ 5 ∷ 6 ∷ 7 ∷ 8 ∷ [])
+    ∷ (0 ∷ 0 ∷ 0 ∷ 0 ∷ 0 ∷ 0 ∷ 0 ∷ 12 ∷ [])
+    ∷ (0x90 ∷ 0x36 ∷ 0xB7 ∷ 0xA4 ∷ 0xE7 ∷ 0xDF ∷ 0x49 ∷ 0xAF ∷ [])
+    ∷ (0 ∷ 12 ∷ 0 ∷ 0 ∷ [])
+    ∷ (0x21 ∷ 0x22 ∷ 0x23 ∷ 0x24 ∷ [])
+    ∷ (0 ∷ 0 ∷ 0 ∷ 0 ∷ [])
+    ∷ [])
+
+-- P6's with no texts, the stamp 0 and the body 01 00 .. 00
+abbrev pub shortBytes : List ℕ
+shortBytes =
+    join
+    ((0 ∷ 2 ∷ replicate 40 0)
+    ∷ (0 ∷ 0 ∷ 0 ∷ 0 ∷ 0 ∷ 0 ∷ 0 ∷ 11 ∷ [])
+    ∷ (0xD8 ∷ 0x4C ∷ 0x42 ∷ 0x38 ∷ 0x35 ∷ 0x03 ∷ 0xCF ∷ 0x94 ∷ [])
+    ∷ (1 ∷ replicate 10 0)
+    ∷ [])
 
 -- ---- the table
 
@@ -46,10 +77,12 @@ pub record Borders : Type 0 where
   pub p5 : (name : List ℕ) (stamp id : ℕ) → Text name → length name ≤ 20 → stamp < 256 ^ 8 → id < 256 ^ 4
       → let s = ofVersion2 getStatusText name stamp (body12 id) in
       (readOf s .number ≡ 0) × (readOf s .step ≡ 70) × (contentIn s (readOf s) ≡ [])
-  -- V 2, any body of 11 bytes with its CRC; the step leads past it
+  pub p5-bytes : (readOf statusBytes .number ≡ 0) × (readOf statusBytes .step ≡ 70) × (contentIn statusBytes (readOf statusBytes) ≡ [])
+  -- V 2, any body of 11 bytes with its CRC: 6, and the step past it
   pub p6 : (type name : List ℕ) (stamp : ℕ) (body : List ℕ) → Text type → length type ≤ 12 → Text name → length name ≤ 20
       → stamp < 256 ^ 8 → Bytes body → length body ≡ 11 → readOf (ofVersion2 type name stamp body) ≡ message.refused 6 69
-  -- a BIND without children
+  pub p6-bytes : readOf shortBytes ≡ message.refused 6 69
+  -- BIND content 00 00 00 00: accepted
   pub p7 : bindFault deepest (0 ∷ 0 ∷ 0 ∷ 0 ∷ []) ≡ 0
   -- a BIND of one TRANSFORM, with the name A and with the name AB
   pub p8-a : (length (bindOfTransform (65 ∷ [])) ≡ 74) × (bindFault deepest (bindOfTransform (65 ∷ [])) ≡ 0)
@@ -64,3 +97,9 @@ pub record Borders : Type 0 where
   pub p11-earlier : (m : Message) → FromArm m → looked (armCalls m) 1199 ≡ refused 15
   -- after a new link
   pub p12 : (m : Message) → FromArm m → looked (callsOfP12 m) 1400 ≡ grey 200 (valueFor m)
+  -- there is a TRANSFORM from Arm; the same of its bytes
+  pub arm : FromArm armMessage
+  pub p10-bytes : looked armBytesCalls 1700 ≡ green 500 armContent
+  pub p11-bytes : looked armBytesCalls 1701 ≡ grey 501 armContent
+  pub p11-earlier-bytes : looked armBytesCalls 1199 ≡ refused 15
+  pub p12-bytes : looked (armBytesCalls ++ looksAndLink) 1400 ≡ grey 200 armContent
