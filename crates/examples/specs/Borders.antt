@@ -78,11 +78,11 @@ pub record Borders : Type 0 where
       → let s = ofVersion2 getStatusText name stamp (body12 id) in
       (readOf s .number ≡ 0) × (readOf s .step ≡ 70) × (contentIn s (readOf s) ≡ [])
   pub p5-bytes : (readOf statusBytes .number ≡ 0) × (readOf statusBytes .step ≡ 70) × (contentIn statusBytes (readOf statusBytes) ≡ [])
-  -- V 2, any body of 11 bytes with its CRC: 6, and the step past it
+  -- V 2, any body of 11 bytes with its CRC; the step leads past it
   pub p6 : (type name : List ℕ) (stamp : ℕ) (body : List ℕ) → Text type → length type ≤ 12 → Text name → length name ≤ 20
       → stamp < 256 ^ 8 → Bytes body → length body ≡ 11 → readOf (ofVersion2 type name stamp body) ≡ message.refused 6 69
   pub p6-bytes : readOf shortBytes ≡ message.refused 6 69
-  -- BIND content 00 00 00 00: accepted
+  -- a BIND without children
   pub p7 : bindFault deepest (0 ∷ 0 ∷ 0 ∷ 0 ∷ []) ≡ 0
   -- a BIND of one TRANSFORM, with the name A and with the name AB
   pub p8-a : (length (bindOfTransform (65 ∷ [])) ≡ 74) × (bindFault deepest (bindOfTransform (65 ∷ [])) ≡ 0)

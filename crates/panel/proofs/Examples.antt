@@ -1,4 +1,4 @@
--- P10 to P12 of document 01, for every message from Arm and for one byte by byte.
+-- Cases P10 to P12, and the cable, for every message from Arm; and for one byte by byte.
 use Prim.Native.Nat.{ℕ, _≤_}
 use mathlib.Core.Path.{_≡_, refl, sym, ap, ap₂, subst, _∙_}
 use mathlib.Core.Logic.{inl}

@@ -1,5 +1,5 @@
--- Examples of document 01: its borders P10 to P12, and a cable that comes loose and is put back, for every TRANSFORM message from the device
--- Arm; such a message byte by byte, and what the tile then shows.
+-- Cases P10 to P12 of rule 8.1, and a cable that comes loose and is put back, for every TRANSFORM message from the device Arm; such a message
+-- byte by byte, and what the tile then shows.
 use Prim.Native.Nat.{ℕ}
 use mathlib.Core.Path.{_≡_}
 use mathlib.Core.Bool.{true}
