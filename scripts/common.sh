@@ -1,5 +1,5 @@
 # shellcheck shell=bash
-# For the scripts that build and run something, which source it: where the repository is, how a file is proved and built by `rt` where it is
+# For the scripts in bash, which source it: where the repository is, help and errors, how a file is proved and built by `rt` where it is
 # missing or older than something in crates/, and how cargo is run for linked/.
 root=$(CDPATH='' cd -- "$(dirname -- "${BASH_SOURCE[0]}")/.." && pwd)
 
@@ -8,8 +8,18 @@ fail() {
     exit 1
 }
 
-usage() {
-    echo "usage: $1" >&2
+# The comment at the head of the script; its lines up to the first empty one say how it is called.
+help() {
+    sed -n '2,/^[^#]/s/^# \{0,1\}//p' "$0"
+    exit 0
+}
+
+# bad_usage WHY
+bad_usage() {
+    {
+        echo "${0##*/}: $1"
+        sed -n '2,/^#$/s/^# //p' "$0"
+    } >&2
     exit 2
 }
 
@@ -22,18 +32,37 @@ is_current() {
     [ -e "$1" ] && [ -z "$(find "$root/crates.txt" "$root/crates" -newer "$1" -print -quit)" ]
 }
 
-# build FILE WORD ..: `rt WORD ..` writes the file. What `rt` prints is shown only where it fails. The file gets the time of the start, as `rt`
-# keeps one that is right, and so that a source edited meanwhile is newer.
+# How many crates a crate rests on, itself among them: crates.txt has each below those that it uses.
+count_crates() {
+    tac "$root/crates.txt" | awk -F '[: ]+' -v name="$1" '
+        BEGIN { wanted[name] }
+        /^[a-z]/ && $1 in wanted { count++; for (i = 2; i <= NF; i++) wanted[$i] }
+        END { print count }'
+}
+
+# show_progress COUNT: of what `rt` prints, a line for each of so many crates as soon as it is proved.
+show_progress() {
+    local line n=0
+    while IFS= read -r line; do
+        case $line in
+        'rt: '*' proved ('*) echo "${0##*/}: $((++n)) of $1: ${line#rt: }" >&2 ;;
+        esac
+    done
+}
+
+# build FILE VERB CRATE: `rt VERB CRATE` writes the file. The file gets the time of the start, as `rt` keeps one that is right, and so that a
+# source edited meanwhile is newer.
 build() {
-    local file=$1 stamp=$root/target/${1##*/}.start said
+    local file=$1 count stamp=$root/target/${1##*/}.start said=$root/target/${1##*/}.said
     shift
     ! is_current "$file" || return 0
     needs rt "the Rattle toolchain is needed to build ${file##*/}"
-    echo "${0##*/}: proving and building ${file##*/}; the first time takes some minutes" >&2
+    count=$(count_crates "$2")
+    echo "${0##*/}: proving $count crates and building ${file##*/}; the first time takes some minutes" >&2
     mkdir -p "$root/target"
     touch "$stamp"
-    said=$(cd "$root" && rt "$@" 2>&1) || fail "rt $* failed:"$'\n'"$said"
-    [ -e "$file" ] || fail "rt $* wrote no ${file#"$root"/}:"$'\n'"$said"
+    (cd "$root" && rt "$@" </dev/null 2>&1) | tee "$said" | show_progress "$count" || fail "rt $* failed:"$'\n'"$(cat "$said")"
+    [ -e "$file" ] || fail "rt $* wrote no ${file#"$root"/}:"$'\n'"$(cat "$said")"
     touch -r "$stamp" "$file"
 }
 
@@ -43,5 +72,5 @@ cargo_linked() {
     needs cargo "it is needed to build linked/"
     build "$archive" staticlib exports
     ARCHIVE=${archive%/*} CARGO_TARGET_DIR=$root/target/linked \
-        cargo "$1" --quiet --release --offline --locked --manifest-path "$root/linked/Cargo.toml" --bin "$2"
+        cargo "$1" --quiet --release --offline --locked --manifest-path "$root/linked/Cargo.toml" --bin "$2" </dev/null
 }

@@ -5,7 +5,7 @@
 //! -- check .`, or `write .` to make the files again.
 
 use reference::vectors::{self, VectorFile};
-use std::path::Path;
+use std::path::{Path, PathBuf};
 use std::process::ExitCode;
 use std::{env, fs, io};
 
@@ -22,23 +22,46 @@ fn main() -> ExitCode {
     }
 }
 
+/// Every file is written beside the stored one first, so that a failure leaves all of those as they
+/// were.
 fn write(root: &Path) -> ExitCode {
     let files = vectors::files();
-    for file in &files {
-        if let Err(error) = store(&root.join(file.path), &file.bytes) {
-            eprintln!("reference: {}: {error}", file.path);
-            return ExitCode::FAILURE;
+    if let Err(message) = store(root, &files) {
+        for file in &files {
+            let _ = fs::remove_file(beside(root, file));
         }
+        eprintln!("reference: {message}");
+        return ExitCode::FAILURE;
     }
     println!("reference: {} vector files written", files.len());
     ExitCode::SUCCESS
 }
 
-fn store(path: &Path, bytes: &[u8]) -> io::Result<()> {
+fn store(root: &Path, files: &[VectorFile]) -> Result<(), String> {
+    for file in files {
+        write_beside(root, file).map_err(|error| said(file, error))?;
+    }
+    for file in files {
+        fs::rename(beside(root, file), root.join(file.path)).map_err(|error| said(file, error))?;
+    }
+    Ok(())
+}
+
+fn write_beside(root: &Path, file: &VectorFile) -> io::Result<()> {
+    let path = beside(root, file);
     if let Some(folder) = path.parent() {
         fs::create_dir_all(folder)?;
     }
-    fs::write(path, bytes)
+    fs::write(path, &file.bytes)
+}
+
+/// Where a file is written before it takes the stored one's place.
+fn beside(root: &Path, file: &VectorFile) -> PathBuf {
+    root.join(format!("{}.new", file.path))
+}
+
+fn said(file: &VectorFile, error: io::Error) -> String {
+    format!("{}: {error}", file.path)
 }
 
 fn check(root: &Path) -> ExitCode {
@@ -68,7 +91,7 @@ fn fault(root: &Path, file: &VectorFile) -> Option<String> {
         Err(error) if error.kind() == io::ErrorKind::NotFound => {
             Some(format!("{}: missing", file.path))
         }
-        Err(error) => Some(format!("{}: {error}", file.path)),
+        Err(error) => Some(said(file, error)),
     }
 }
 

@@ -1,4 +1,4 @@
-//! differential [--no-long] [COUNT [SEED]]: gives COUNT inputs, and the long ones, to the proved
+//! differential [--no-long] COUNT SEED: gives COUNT inputs, and the long ones, to the proved
 //! library and to the reference implementation, and compares the answers. It prints how many of
 //! each kind were compared and what they were answered, or the first difference. Where a side
 //! panics, it says at which input.
@@ -14,9 +14,6 @@ use linked::tally::{words, Tallies};
 use std::process::ExitCode;
 use std::sync::atomic::{AtomicU64, Ordering};
 use std::{env, thread};
-
-const COUNT: u64 = 1_000_000;
-const SEED: u64 = 1;
 
 /// How many inputs a thread takes at a time.
 const BATCH: u64 = 64;
@@ -37,15 +34,13 @@ fn main() -> ExitCode {
         ref rest => (long::inputs(), rest),
     };
     match numbers(rest).as_deref() {
-        Some([]) => run(long, COUNT, SEED),
-        Some([count]) => run(long, *count, SEED),
         Some([count, seed]) => run(long, *count, *seed),
         _ => usage(),
     }
 }
 
 fn usage() -> ExitCode {
-    eprintln!("usage: differential [--no-long] [COUNT [SEED]] | differential --only NUMBER SEED");
+    eprintln!("usage: differential [--no-long] COUNT SEED | differential --only NUMBER SEED");
     ExitCode::from(2)
 }
 
