@@ -1,5 +1,5 @@
-"""The cells of 'From rule to theorem' in docs/THEOREMS.md, for scripts/map. A cell is a list of names, divided by commas, semicolons, 'and' or
-'..'. A name stands in backticks and can have brackets behind it:
+"""The cells of 'From rule to theorem' in docs/THEOREMS.md, for scripts/map. A cell is a list of names, divided by commas, semicolons, 'and'
+or '..'. A name stands in backticks and can have brackets behind it:
 - (`crate`, `crate`): the crates that have it. A theorem or a wrong version needs them where several crates have one of that name.
 - (field, field): fields of a theorem, or of a record of the same file that it mentions.
 In place of a name there can be one of PHRASES. A colon ends the list, and any words can follow; names in them are names of the tree."""

@@ -50,8 +50,8 @@ show_progress() {
     done
 }
 
-# build FILE VERB CRATE: `rt VERB CRATE` writes the file. The file gets the time of the start, as `rt` keeps one that is right, and so that a
-# source edited meanwhile is newer.
+# build FILE VERB CRATE: `rt VERB CRATE` writes the file. The file gets the time of the start, as `rt` keeps one that is right, and so that
+# a source edited meanwhile is newer.
 build() {
     local file=$1 count stamp=$root/target/${1##*/}.start said=$root/target/${1##*/}.said
     shift

@@ -5,7 +5,7 @@ import glob
 import os
 import re
 
-# Of a record the parts are its fields, of a data type its constructors. The type of a definition is what follows its first colon.
+# Of a record the parts are its fields, of a data type its constructors.
 Definition = collections.namedtuple("Definition", "kind type body parts")
 # `used` and `aliases`: where a name, or the module behind a short name, comes from.
 Module = collections.namedtuple("Module", "definitions used aliases")
@@ -13,9 +13,10 @@ Module = collections.namedtuple("Module", "definitions used aliases")
 Function = collections.namedtuple("Function", "crate path public")
 
 NAME = r"[^\s:(){}]+"
-HEAD = re.compile(rf"(?:abbrev |unfoldable )?(?:pub )?(?:(?P<kind>record|data) (?P<named>{NAME})(?P<rest>.*)|(?P<name>{NAME}) : (?P<type>.*))")
+TYPE_HEAD = re.compile(rf"(?:pub )?(record|data) ({NAME})(.*)")
+HEAD = re.compile(rf"(?:abbrev |unfoldable )?(?:pub )?()({NAME}) :(.*)")
 PART = re.compile(rf"(?:pub )?({NAME}) : ")
-BLOCK = re.compile(r"(?:unfoldable )?mutual|module _ (?P<given>.*)")
+BLOCK = re.compile(r"(?:unfoldable )?mutual|module _ (.*)")
 USE = re.compile(r"(?:pub )?use Rattle·(\w+)(?:·\w+)?\.specs\.([\w.-]+?)(?:\.\{(.*)\}| as (\S+))")
 FUNCTION = re.compile(r'^( *)(impl|(?:pub(?:\(\w+\))? )?(?:extern "C" )?fn) (\w+)', re.MULTILINE)
 WORD = re.compile(r"[^\s(){},;«»]+")
@@ -43,30 +44,32 @@ def code(path):
 # ---- definitions
 
 
-def definitions(text):
+def definitions(path):
     """The definitions of a file by name. Those inside `mutual` and `module _ (..) where` are among them; what stands in the brackets is of
     the type of each."""
     found, blocks, current = {}, [""], None
-    for line in text.split("\n"):
+    for line in code(path).split("\n"):
         bare = line.strip()
-        if not bare or re.match(r"(?:pub )?use ", bare):
+        if not bare or re.match(r"(?:pub )?(?:use|mod) ", bare):
             continue
         indent = len(line) - len(line.lstrip())
         del blocks[indent // 2 + 1:]
-        depth = indent - 2 * len(blocks) + 2
-        head = HEAD.fullmatch(bare)
+        depth = indent - 2 * (len(blocks) - 1)
+        head = TYPE_HEAD.fullmatch(bare) or HEAD.fullmatch(bare)
         if depth == 0 and (block := BLOCK.fullmatch(bare)):
-            blocks.append(block["given"] or "")
+            blocks.append(block[1] or "")
             current = None
         elif depth == 0 and head:
-            given = [text.removesuffix(" where") for text in blocks if text]
-            current = Definition(head["kind"], [" → ".join([*given, head["rest"] or head["type"] or ""])], [], [])
-            found[head["named"] or head["name"]] = current
+            kind, name, rest = head.groups()
+            given = [f"{text.removesuffix('where')}→" for text in blocks if text]
+            current = found[name] = Definition(kind, [*given, rest.strip()], [], [])
+        elif depth == 0 and bare.split()[0] not in found and "/specs/" in path:
+            raise Unknown(f"{path}: not understood: {bare}")
         elif current:
             extend(current, bare, depth)
         else:
             blocks[-1] += f" {bare}"
-    return {name: closed(definition) for name, definition in found.items()}
+    return {name: Definition(kind, " ".join(of_type), " ".join(body), parts) for name, (kind, of_type, body, parts) in found.items()}
 
 
 def extend(definition, bare, depth):
@@ -76,10 +79,6 @@ def extend(definition, bare, depth):
         definition.parts.append(part[1])
     in_type = not definition.kind and not definition.body and depth > 0
     (definition.type if in_type else definition.body).append(bare)
-
-
-def closed(definition):
-    return definition._replace(type=" ".join(definition.type), body=" ".join(definition.body))
 
 
 def result(definition):
@@ -92,23 +91,21 @@ def modules(folder="specs"):
     found = {}
     for path in sorted(glob.glob(f"crates/*/{folder}/**/*.antt", recursive=True)):
         crate, name = re.fullmatch(rf"crates/(\w+)/{folder}/(.+)\.antt", path).groups()
-        text = code(path)
-        found[crate, name.replace("/", ".")] = Module(definitions(text), *uses(path, text))
+        found[crate, name.replace("/", ".")] = Module(definitions(path), *uses(path))
     return found
 
 
-def uses(path, text):
-    """The names of specs/ that a file uses, and its short names for modules of specs/."""
+def uses(path):
+    """The names of specs/ that a file uses, and its short names for modules of specs/. A file of specs/ uses nothing else of ours."""
     used, aliases = {}, {}
-    for line in re.findall(r"^(?:ghost )?((?:pub )?use Rattle·.*?\bspecs\..*?);?$", text, re.MULTILINE):
+    for line in re.findall(r"^(?:ghost )?((?:pub )?use Rattle·.*?);?$", code(path), re.MULTILINE):
         match = USE.fullmatch(line)
-        if not match:
+        if match and match[4]:
+            aliases[match[4]] = match.group(1, 2)
+        elif match:
+            used.update({name: match.group(1, 2) for name in match[3].split(", ")})
+        elif "/specs/" in path or ".specs." in line:
             raise Unknown(f"{path}: not understood: {line}")
-        crate, module, names, alias = match.groups()
-        if alias:
-            aliases[alias] = (crate, module)
-        else:
-            used.update({name: (crate, module) for name in names.split(", ")})
     return used, aliases
 
 
