@@ -9,7 +9,7 @@ fail() {
 }
 
 # The comment at the head of the script; its lines up to the first empty one say how it is called.
-help() {
+show_help() {
     sed -n '2,/^[^#]/s/^# \{0,1\}//p' "$0"
     exit 0
 }
@@ -40,12 +40,12 @@ count_crates() {
         END { print count }'
 }
 
-# show_progress COUNT: of what `rt` prints, a line for each of so many crates as soon as it is proved.
+# show_progress COUNT: of what `rt` prints, a line for each of so many crates as soon as it is proved; an archive's is the last.
 show_progress() {
     local line n=0
     while IFS= read -r line; do
         case $line in
-        'rt: '*' proved ('*) echo "${0##*/}: $((++n)) of $1: ${line#rt: }" >&2 ;;
+        'rt: '*' proved ('* | 'rt: target/staticlib/'*) echo "${0##*/}: $((++n)) of $1: ${line#rt: }" >&2 ;;
         esac
     done
 }
