@@ -1,5 +1,6 @@
 -- The examples, by computation.
 use mathlib.Core.Path.{refl}
+use native.Mathlib.Omega.{arith}
 use Rattle.fields.specs.Bytes.{same, sized}
 use Rattle.fields.specs.Lists.{all, flat}
 use Rattle.fields.specs.Numbers.{beVal, beBytes}
@@ -17,6 +18,7 @@ pub examples : Examples
 unfolding same sized all flat beVal beBytes isText textOf pastText allZero textOk textClean fieldOk textBytes writtenOf roomFault outAfter padded childHeader childName childData nameTable encodeChildren typesOk nameOk namesOk tableOk padOk blockOk dataOk layoutOk layoutFault kindOf childrenFault bindFault contentFault children listsOk listsFault writeFault bindWritten bindOut
 examples =
     record {
+      sizes-fit = (omega arith, (omega arith, tt));
       written = refl;
       wrote = refl;
       untouched = refl;

@@ -8,6 +8,7 @@ use Rattle.fields.specs.declared.Written.the-variants.{Wrote, Refused}
 use Rattle.bundle.specs.Examples.{twoChildren}
 use Rattle.content.specs.Kinds.{bindText}
 use Rattle.content.specs.Examples.{noChildren, within}
+use Rattle.bind_writer.specs.Lists.{SizesFit}
 use Rattle.bind_writer.specs.Writer.{bindWritten, bindOut}
 
 -- the children of `twoChildren`
@@ -28,6 +29,8 @@ abbrev pub bindNoRoom : List ℕ → Written
 bindNoRoom s = bindWritten (bindText ∷ []) ([] ∷ []) (s ∷ []) 0
 
 pub record Examples : Type 0 where
+  -- the premise of the statements holds of them
+  pub sizes-fit : SizesFit contents
   -- into 58 bytes, of which two stay; into 56 and into 55
   pub written : bindOut types names contents (replicate 58 5) ≡ twoChildren ++ (5 ∷ 5 ∷ [])
   pub wrote : map (bindWritten types names contents) (58 ∷ 56 ∷ 55 ∷ []) ≡ Wrote 56 ∷ Wrote 56 ∷ Refused 20 ∷ []

@@ -1,16 +1,25 @@
 -- The examples, by computation.
+use Prim.Native.Nat.{zero, suc, _<_}
 use mathlib.Core.Path.{refl}
-use Rattle.fields.specs.Bytes.{same, sized}
+use mathlib.Core.List.{[], _∷_}
+use native.Mathlib.Omega.{arith}
+use Rattle.fields.specs.Bytes.{Bytes, same, sized}
 use Rattle.fields.specs.Lists.{all}
 use Rattle.fields.specs.Numbers.{beVal, beBytes}
 use Rattle.fields.specs.Text.{isText, textOf, pastText, allZero, textOk, textClean, fieldOk, textBytes}
 use Rattle.fields.specs.Answer.{writtenOf, roomFault, outAfter}
 use Rattle.fields.specs.Examples.{Examples}
 
+below : Bytes (255 ∷ [])
+below zero = omega arith
+below (suc i) = omega arith
+
 pub examples : Examples
 unfolding same sized all beVal beBytes isText textOf pastText allZero textOk textClean fieldOk textBytes writtenOf roomFault outAfter
 examples =
     record {
+      byte = below;
+      no-byte = λ b. absurd (let z : 256 < 256 = b 0 in omega arith);
       number-read = refl;
       number-written = refl;
       numbers-read = refl;

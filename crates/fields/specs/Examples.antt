@@ -6,7 +6,7 @@ use mathlib.Core.List.{List, [], _∷_, map}
 use lib.ListN.{replicate}
 use lib.Seq.{sets}
 use Rattle.fields.specs.declared.Written.the-variants.{Wrote, Refused}
-use Rattle.fields.specs.Bytes.{part, same}
+use Rattle.fields.specs.Bytes.{Bytes, part, same}
 use Rattle.fields.specs.Numbers.{beVal, beBytes, beAt}
 use Rattle.fields.specs.Text.{isText, textOf, pastText, fieldOk, textBytes}
 use Rattle.fields.specs.Checks.{orElse}
@@ -17,6 +17,9 @@ abbrev pub ten : List ℕ
 ten = 0x10 ∷ 0x11 ∷ 0x12 ∷ 0x13 ∷ 0x14 ∷ 0x15 ∷ 0x16 ∷ 0x17 ∷ 0x18 ∷ 0x19 ∷ []
 
 pub record Examples : Type 0 where
+  -- 255 is a byte, and 256 is none
+  pub byte : Bytes (255 ∷ [])
+  pub no-byte : Bytes (256 ∷ []) → ⊥
   -- the most significant byte comes first
   pub number-read : beVal (0x01 ∷ 0x02 ∷ 0x03 ∷ 0x04 ∷ []) ≡ 0x01020304
   pub number-written : beBytes 4 0x01020304 ≡ 0x01 ∷ 0x02 ∷ 0x03 ∷ 0x04 ∷ []

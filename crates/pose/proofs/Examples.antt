@@ -1,17 +1,25 @@
 -- The examples, by computation.
+use Prim.Native.Nat.{ℕ, suc, _<_}
 use mathlib.Core.Path.{refl}
+use mathlib.Core.List.{[], _∷_}
+use native.Mathlib.Omega.{arith}
 use Rattle.fields.specs.Lists.{flat}
 use Rattle.fields.specs.Numbers.{beVal, beBytes}
 use Rattle.fields.specs.Answer.{writtenOf, roomFault, outAfter}
 use Rattle.pose.specs.Words.{wordBytes}
-use Rattle.pose.specs.Transform.{transformFault, transformOf, transformWritten, transformOut}
+use Rattle.pose.specs.Transform.{transformFault, transformOf, transformWritten, transformOut, ThreeWords}
 use Rattle.pose.specs.Position.{wordsIn, positionFault, positionOf, countFault, positionWritten, positionOut}
 use Rattle.pose.specs.Examples.{Examples}
+
+-- a small number and the two after it
+from : (n : ℕ) → n < 100 → ThreeWords (n ∷ suc n ∷ suc (suc n) ∷ [])
+from n h = record { count = refl; words = (omega arith, (omega arith, (omega arith, tt))) }
 
 pub examples : Examples
 unfolding flat beVal beBytes writtenOf roomFault outAfter wordBytes transformFault transformOf transformWritten transformOut wordsIn positionFault positionOf countFault positionWritten positionOut
 examples =
     record {
+      columns = record { column1 = from 1 (omega arith); column2 = from 4 (omega arith); column3 = from 7 (omega arith); translation = from 10 (omega arith) };
       read = refl;
       wrote = refl;
       written = refl;

@@ -6,7 +6,7 @@ use lib.ListN.{take, replicate}
 use Rattle.fields.specs.declared.Written.{Written}
 use Rattle.fields.specs.declared.Written.the-variants.{Wrote, Refused}
 use Rattle.pose.specs.declared.Transform.{Transform}
-use Rattle.pose.specs.Transform.{transformFault, transformOf, transformWritten, transformOut}
+use Rattle.pose.specs.Transform.{transformFault, transformOf, transformWritten, transformOut, Columns}
 use Rattle.pose.specs.Position.{positionFault, positionOf, positionWritten, positionOut}
 
 -- the bytes of the words 1 to 12
@@ -33,6 +33,8 @@ abbrev pub anyBits : List ℕ
 anyBits = 0x80 ∷ 0 ∷ 0 ∷ 0 ∷ 0x7F ∷ 0xC0 ∷ 0 ∷ 1 ∷ 0xFF ∷ 0xFF ∷ 0xFF ∷ 0xFF ∷ []
 
 pub record Examples : Type 0 where
+  -- a transform of which the statements speak
+  pub columns : Columns inColumns
   -- a TRANSFORM: read, written, with one byte less, into one byte less
   pub read : transformOf twelveWords ≡ record { number = 0; transform = inColumns }
   pub wrote : transformWritten 50 ≡ Wrote 48
