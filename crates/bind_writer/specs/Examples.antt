@@ -41,9 +41,11 @@ pub record Examples : Type 0 where
       ≡ replicate 3 (Refused 10)
   -- a type of 12 bytes and of 13; bytes 0 and 128 in a type and in a name
   pub type-lengths : oneWritten (replicate 12 65) [] ∷ oneWritten (replicate 13 65) [] ∷ [] ≡ Wrote 28 ∷ Refused 10 ∷ []
-  pub bytes : oneWritten (0 ∷ []) [] ∷ oneWritten (128 ∷ []) [] ∷ oneWritten [] (0 ∷ []) ∷ oneWritten [] (128 ∷ []) ∷ [] ≡ replicate 4 (Refused 10)
+  pub bytes : oneWritten (0 ∷ []) [] ∷ oneWritten (128 ∷ []) [] ∷ oneWritten [] (0 ∷ []) ∷ oneWritten [] (128 ∷ []) ∷ []
+      ≡ replicate 4 (Refused 10)
   -- a name and its 0 take 65,534 bytes, and 65,535, which makes a table of 65,536
   pub table-lengths : oneWritten [] (replicate 65533 65) ∷ oneWritten [] (replicate 65534 65) ∷ [] ≡ Wrote 65560 ∷ Refused 10 ∷ []
   -- the lists, then the children, which are at level 2, then 20
-  pub children-faults : map bindNoRoom ([] ∷ within (within (within noChildren)) ∷ within (within noChildren) ∷ []) ≡ Refused 10 ∷ Refused 11 ∷ Refused 20 ∷ []
+  pub children-faults : map bindNoRoom ([] ∷ within (within (within noChildren)) ∷ within (within noChildren) ∷ [])
+      ≡ Refused 10 ∷ Refused 11 ∷ Refused 20 ∷ []
   pub lists-first : bindWritten (bindText ∷ []) ((0 ∷ []) ∷ []) (within (within (within noChildren)) ∷ []) 0 ≡ Refused 10

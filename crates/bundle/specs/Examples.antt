@@ -69,7 +69,7 @@ pub record Examples : Type 0 where
       ≡ replicate 5 10
   -- names of an even total have no pad; both may be empty
   pub even-tables : tabled (0 ∷ 6 ∷ 0x41 ∷ 0 ∷ 0x42 ∷ 0x43 ∷ 0x44 ∷ 0 ∷ []) ∷ tabled (0 ∷ 2 ∷ 0 ∷ 0 ∷ []) ∷ [] ≡ 0 ∷ 0 ∷ []
-  -- the data: either pad not 0, either missing, one pad behind all data, a byte left over
+  -- the data: either pad not 0, either missing, both missing, a byte left over
   pub other-data : map filled
       ((0x61 ∷ 0x62 ∷ 0x63 ∷ 1 ∷ 0x71 ∷ 0 ∷ [])
       ∷ (0x61 ∷ 0x62 ∷ 0x63 ∷ 0 ∷ 0x71 ∷ 1 ∷ [])
@@ -79,6 +79,7 @@ pub record Examples : Type 0 where
       ∷ (0x61 ∷ 0x62 ∷ 0x63 ∷ 0 ∷ 0x71 ∷ 0 ∷ 0 ∷ [])
       ∷ [])
       ≡ replicate 6 10
-  -- without children: whole, cut off, with a byte left over, with a table
-  pub no-children : map layoutFault ((0 ∷ 0 ∷ 0 ∷ 0 ∷ []) ∷ (0 ∷ 0 ∷ 0 ∷ []) ∷ [] ∷ (0 ∷ 0 ∷ 0 ∷ 0 ∷ 0 ∷ []) ∷ (0 ∷ 0 ∷ 0 ∷ 2 ∷ 0 ∷ 0 ∷ []) ∷ [])
+  -- without children: whole, cut off, with a byte left over, with a table; no bytes at all
+  pub no-children : map layoutFault
+      ((0 ∷ 0 ∷ 0 ∷ 0 ∷ []) ∷ (0 ∷ 0 ∷ 0 ∷ []) ∷ (0 ∷ 0 ∷ 0 ∷ 0 ∷ 0 ∷ []) ∷ (0 ∷ 0 ∷ 0 ∷ 2 ∷ 0 ∷ 0 ∷ []) ∷ [] ∷ [])
       ≡ 0 ∷ 10 ∷ 10 ∷ 10 ∷ 10 ∷ []

@@ -1,7 +1,7 @@
 -- What the definitions say of a few bytes, as one statement.
 use Prim.Native.Nat.{ℕ}
 use mathlib.Core.Path.{_≡_}
-use mathlib.Core.Bool.{Bool, true, false}
+use mathlib.Core.Bool.{true, false}
 use mathlib.Core.List.{List, [], _∷_, map}
 use lib.ListN.{replicate}
 use lib.Seq.{sets}
@@ -27,7 +27,8 @@ pub record Examples : Type 0 where
   pub numbers-read : map (λ w. beAt w 1 ten) (1 ∷ 2 ∷ 4 ∷ 8 ∷ []) ≡ 0x11 ∷ 0x1112 ∷ 0x11121314 ∷ 0x1112131415161718 ∷ []
   pub written-1 : sets (replicate {A = ℕ} 10 0) 1 (beBytes 1 0x11) ≡ 0 ∷ 0x11 ∷ replicate 8 0
   pub written-2 : sets (replicate {A = ℕ} 10 0) 1 (beBytes 2 0x1112) ≡ 0 ∷ 0x11 ∷ 0x12 ∷ replicate 7 0
-  pub written-8 : sets (replicate {A = ℕ} 10 0) 1 (beBytes 8 0x1112131415161718) ≡ 0 ∷ 0x11 ∷ 0x12 ∷ 0x13 ∷ 0x14 ∷ 0x15 ∷ 0x16 ∷ 0x17 ∷ 0x18 ∷ 0 ∷ []
+  pub written-8 : sets (replicate {A = ℕ} 10 0) 1 (beBytes 8 0x1112131415161718)
+      ≡ 0 ∷ 0x11 ∷ 0x12 ∷ 0x13 ∷ 0x14 ∷ 0x15 ∷ 0x16 ∷ 0x17 ∷ 0x18 ∷ 0 ∷ []
   -- past the end there is nothing to read, and nothing is written
   pub number-past-end : beAt 2 1 (0x01 ∷ 0x02 ∷ []) ≡ 0x02
   pub written-past-end : sets {A = ℕ} (0x01 ∷ 0x02 ∷ []) 1 (0x03 ∷ 0x04 ∷ []) ≡ 0x01 ∷ 0x03 ∷ []
@@ -43,13 +44,15 @@ pub record Examples : Type 0 where
   pub field-resumed : fieldOk (1 ∷ 0 ∷ 1 ∷ []) ≡ false
   -- TYPE and DEVICE_NAME: "Arm" in 12 bytes and in 20
   pub text-12 : textBytes 12 (0x41 ∷ 0x72 ∷ 0x6d ∷ []) ≡ 0x41 ∷ 0x72 ∷ 0x6d ∷ 0 ∷ 0 ∷ 0 ∷ 0 ∷ 0 ∷ 0 ∷ 0 ∷ 0 ∷ 0 ∷ []
-  pub text-20 : textBytes 20 (0x41 ∷ 0x72 ∷ 0x6d ∷ []) ≡ 0x41 ∷ 0x72 ∷ 0x6d ∷ 0 ∷ 0 ∷ 0 ∷ 0 ∷ 0 ∷ 0 ∷ 0 ∷ 0 ∷ 0 ∷ 0 ∷ 0 ∷ 0 ∷ 0 ∷ 0 ∷ 0 ∷ 0 ∷ 0 ∷ []
+  pub text-20 : textBytes 20 (0x41 ∷ 0x72 ∷ 0x6d ∷ [])
+      ≡ 0x41 ∷ 0x72 ∷ 0x6d ∷ 0 ∷ 0 ∷ 0 ∷ 0 ∷ 0 ∷ 0 ∷ 0 ∷ 0 ∷ 0 ∷ 0 ∷ 0 ∷ 0 ∷ 0 ∷ 0 ∷ 0 ∷ 0 ∷ 0 ∷ []
   -- texts: the border bytes, and no bytes; what follows a text's 0
-  pub texts : _≡_ {A = List Bool} (map isText ((0 ∷ []) ∷ (1 ∷ []) ∷ (127 ∷ []) ∷ (128 ∷ []) ∷ [] ∷ [])) (false ∷ true ∷ true ∷ false ∷ true ∷ [])
+  pub texts : map isText ((0 ∷ []) ∷ (1 ∷ []) ∷ (127 ∷ []) ∷ (128 ∷ []) ∷ [] ∷ []) ≡ false ∷ true ∷ true ∷ false ∷ true ∷ []
   pub past-text : pastText (0x41 ∷ 0 ∷ 0x42 ∷ 0 ∷ []) ≡ 0x42 ∷ 0 ∷ []
   -- two bytes at place 3; bytes compared with their like, with a part of them, and turned round
   pub two-at-three : part 2 3 ten ≡ 0x13 ∷ 0x14 ∷ []
-  pub compared : _≡_ {A = List Bool} (map (same (1 ∷ 2 ∷ [])) ((1 ∷ 2 ∷ []) ∷ (1 ∷ []) ∷ (2 ∷ 1 ∷ []) ∷ (1 ∷ 2 ∷ 3 ∷ []) ∷ [])) (true ∷ false ∷ false ∷ false ∷ [])
+  pub compared : map (same (1 ∷ 2 ∷ [])) ((1 ∷ 2 ∷ []) ∷ (1 ∷ []) ∷ (2 ∷ 1 ∷ []) ∷ (1 ∷ 2 ∷ 3 ∷ []) ∷ [])
+      ≡ true ∷ false ∷ false ∷ false ∷ []
   -- the first fault of two
   pub faults : orElse 0 0 ∷ orElse 0 9 ∷ orElse 8 0 ∷ orElse 8 9 ∷ [] ≡ 0 ∷ 9 ∷ 8 ∷ 8 ∷ []
   -- a writer's answers: three bytes into 3 and into 2, and with a fault; the numbers and counts; the buffer

@@ -69,7 +69,15 @@ pub record Examples : Type 0 where
   -- the order and the widths of the fields: written, read in front of a further byte, and written into 60 bytes, of which two stay
   pub layout : encodeHeader distinct ≡ distinctBytes
   pub layout-read : headerRead (distinctBytes ++ (9 ∷ []))
-      ≡ record { number = 0; version = 2; «type_len» = 4; «name_len» = 3; «time_stamp» = 0x1112131415161718; «body_size» = 0x212223; crc = 0x3132333435363738 }
+      ≡ record {
+        number = 0;
+        version = 2;
+        «type_len» = 4;
+        «name_len» = 3;
+        «time_stamp» = 0x1112131415161718;
+        «body_size» = 0x212223;
+        crc = 0x3132333435363738;
+      }
   pub texts-read : headerOf (distinctBytes ++ (9 ∷ [])) ≡ distinct
   pub wrote : headerWritten distinct 60 ≡ Wrote 58
   pub written : headerOut distinct (replicate 60 5) ≡ distinctBytes ++ (5 ∷ 5 ∷ [])
@@ -77,10 +85,12 @@ pub record Examples : Type 0 where
   pub short : headerRead (take 57 distinctBytes)
       ≡ record { number = 1; version = 0; «type_len» = 0; «name_len» = 0; «time_stamp» = 0; «body_size» = 0; crc = 0 }
   -- full fields and the largest body; no text field; a body too large; 2 before 3, and 1 before both
-  pub accepted : numbersOf (bytesWith (full 12) (full 20) atLimit ∷ bytesWith (replicate 12 0) (replicate 20 0) (replicate 8 0) ∷ []) ≡ 0 ∷ 0 ∷ []
+  pub accepted : numbersOf (bytesWith (full 12) (full 20) atLimit ∷ bytesWith (replicate 12 0) (replicate 20 0) (replicate 8 0) ∷ [])
+      ≡ 0 ∷ 0 ∷ []
   pub two : numbersOf (bytesWith (behindZeros 11) (full 20) atLimit ∷ bytesWith (full 12) (behindZeros 19) atLimit ∷ []) ≡ 2 ∷ 2 ∷ []
   pub three : numbersOf (bytesWith (full 12) (full 20) aboveLimit ∷ bytesWith (full 12) (full 20) farAbove ∷ []) ≡ 3 ∷ 3 ∷ []
-  pub order : numbersOf (bytesWith (full 12) (behindZeros 19) aboveLimit ∷ take 57 (bytesWith (full 12) (behindZeros 19) aboveLimit) ∷ []) ≡ 2 ∷ 1 ∷ []
+  pub order : numbersOf (bytesWith (full 12) (behindZeros 19) aboveLimit ∷ take 57 (bytesWith (full 12) (behindZeros 19) aboveLimit) ∷ [])
+      ≡ 2 ∷ 1 ∷ []
   -- the writer: texts that fill their fields, and one byte more of either; a byte 0, a byte 128
   pub name-lengths : answersOf ((full 12, full 20) ∷ (full 13, full 20) ∷ (full 12, full 21) ∷ []) ≡ Wrote 58 ∷ Refused 2 ∷ Refused 2 ∷ []
   pub name-bytes : answersOf ((1 ∷ 127 ∷ [], []) ∷ (0 ∷ [], []) ∷ ([], 128 ∷ []) ∷ []) ≡ Wrote 58 ∷ Refused 2 ∷ Refused 2 ∷ []

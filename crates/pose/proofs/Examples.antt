@@ -19,7 +19,13 @@ pub examples : Examples
 unfolding flat beVal beBytes writtenOf roomFault outAfter wordBytes transformFault transformOf transformWritten transformOut wordsIn positionFault positionOf countFault positionWritten positionOut
 examples =
     record {
-      columns = record { column1 = from 1 (omega arith); column2 = from 4 (omega arith); column3 = from 7 (omega arith); translation = from 10 (omega arith) };
+      columns =
+          record {
+            column1 = from 1 (omega arith);
+            column2 = from 4 (omega arith);
+            column3 = from 7 (omega arith);
+            translation = from 10 (omega arith);
+          };
       read = refl;
       wrote = refl;
       written = refl;

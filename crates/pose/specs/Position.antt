@@ -90,7 +90,8 @@ pub record Positions : Type 0 where
   pub handed : (c : List ℕ) → Bytes c → positionFault c ≡ 0 → wordBytes (positionWords (positionOf c)) ≡ c
   pub zeros : (c : List ℕ) → drop (positionOf c .count) (positionOf c .words) ≡ replicate (7 - positionOf c .count) 0
   -- a refused content hands out no words
-  pub no-words : (c : List ℕ) → (positionFault c ≡ 0 → ⊥) → positionOf c ≡ record { number = positionFault c; count = 0; words = replicate 7 0 }
+  pub no-words : (c : List ℕ) → (positionFault c ≡ 0 → ⊥)
+      → positionOf c ≡ record { number = positionFault c; count = 0; words = replicate 7 0 }
   -- the writer, given what was read and room for it, writes the same bytes and keeps those beyond
   pub written-back : (c out : List ℕ) → Bytes c → positionFault c ≡ 0 → length c ≤ length out
       → (positionWritten (positionWords (positionOf c)) (length out) ≡ Wrote (length c))
