@@ -64,8 +64,10 @@ module _ (R : Reader) where
         linked = refl;
         counted = rw (r .arm) refl;
         refused = rw (r .damaged, r .more) refl;
+        arm = rw (r .arm) refl;
         after = rw (r .arm) refl;
       }
 
 pub books : Books
-books = record { fresh = refl; reads = reads; on-books = on-books }
+unfolding all
+books = record { fresh = refl; calls = (tt, (tt, (bytes-below armBytes refl, (tt, (tt, tt))))); reads = reads; on-books = on-books }

@@ -5,9 +5,10 @@ use mathlib.Core.Path.{_≡_}
 use mathlib.Core.Bool.{Bool, true, false}
 use mathlib.Core.List.{List, [], _∷_, _++_, map}
 use lib.ListN.{take, replicate}
+use Rattle.fields.specs.Lists.{Each}
 use Rattle.content.specs.Kinds.{transformText, positionText}
 use Rattle.message.specs.Samples.{armMessage, armBytes, probeBytes}
-use Rattle.history.specs.Calls.{Call, add, linkUp, linkDown, message, look}
+use Rattle.history.specs.Calls.{Call, add, linkUp, linkDown, message, look, OfBytes}
 use Rattle.history.specs.Reading.{Reading, noMessage, leftOver, oneMessage, Reader}
 use Rattle.history.specs.Summary.{Entry, Summary, freshSummary, numberOn, next, summaryOf}
 use Rattle.history.specs.Examples.{nameOf}
@@ -33,6 +34,10 @@ armName = 65 ∷ 114 ∷ 109 ∷ []
 -- one tile: TRANSFORM, "Arm"
 abbrev pub armTiles : List Entry
 armTiles = tileOf transformText armName ∷ []
+
+-- the tile, link up at 1000, its message at 1200
+abbrev pub armCalls : List Call
+armCalls = add transformText armName 500 ∷ linkUp 1000 ∷ message 1200 armBytes ∷ []
 
 -- ---- what the bytes of message calls are
 
@@ -108,7 +113,9 @@ module _ (R : Reader) where
         ∷ look 1 1300
         ∷ [])
         ≡ replicate 7 (bookOf armTiles true 1200)
-    -- a sequence: a message while the link is down, an add, a link up, a message, a look, another add
+    -- the book after a sequence of calls
+    pub arm : summaryOf R armCalls ≡ bookOf armTiles true 1200
+    -- a message while the link is down, an add, a link up, a message, a look, another add
     pub after : summaryOf R
         (message 900 armBytes ∷ add transformText armName 500 ∷ linkUp 1000 ∷ message 1200 armBytes ∷ look 0 1700 ∷ add transformText (nameOf 1) 500 ∷ [])
         ≡ bookOf (tileOf transformText armName ∷ tileOf transformText (nameOf 1) ∷ []) true 1200
@@ -116,5 +123,7 @@ module _ (R : Reader) where
 pub record Books : Type 0 where
   -- rule 7.1
   pub fresh : freshSummary ≡ bookOf [] false 0
+  -- calls of every kind can be made
+  pub calls : Each OfBytes (armCalls ++ (linkDown 1300 ∷ look 0 1400 ∷ []))
   pub reads : (R : Reader) → Read R
   pub on-books : (R : Reader) → OnBooks R

@@ -108,6 +108,7 @@ samples =
             written = refl;
             out = refl;
           };
+      nothing = refl;
       front = refl;
       version-crc = refl;
       extended = refl;

@@ -208,6 +208,25 @@ abbrev pub writesContent : ℕ → List ℕ → ℕ → Written
 writesContent version content room =
     messageWritten (given (record { version = version; «time_stamp» = 0; id = 0 }) (65 ∷ []) [] [] content []) room
 
+-- the answer to no bytes
+abbrev pub noAnswer : Answer
+noAnswer =
+    record {
+      number = 1;
+      step = 0;
+      version = 0;
+      «type_len» = 0;
+      «name_len» = 0;
+      «time_stamp» = 0;
+      id = 0;
+      «further_at» = 0;
+      «further_len» = 0;
+      «content_at» = 0;
+      «content_len» = 0;
+      «metadata_at» = 0;
+      «metadata_len» = 0;
+    }
+
 -- what is accepted of `headOf [] 0`: V 1, no texts, no body
 abbrev pub emptyAnswer : Answer
 emptyAnswer =
@@ -233,6 +252,8 @@ pub record Samples : Type 0 where
   pub probe : Sample probeMessage probeBytes probeAnswer (record { version = 2; «time_stamp» = 0x1112131415161718; id = 0x21222324 })
       statusText probeText (0x31 ∷ 0x32 ∷ []) (0x41 ∷ 0x42 ∷ 0x43 ∷ []) probeMetadata
   -- ---- the reader, rule 5.2
+  -- no bytes: all but the number is 0
+  pub nothing : readOf [] ≡ noAnswer
   -- 57 bytes that are no text field; 2 before 3; 3 before the 1 of the whole; the largest body; no body
   pub front : answersTo
       (take 57 (headOf (0 ∷ 65 ∷ []) 0)

@@ -11,7 +11,7 @@ use Rattle.fields.specs.Lists.{all, any, flat}
 use Rattle.fields.specs.Numbers.{beBytes}
 use Rattle.fields.specs.Text.{isText}
 use Rattle.pose.specs.Words.{wordBytes}
-use Rattle.content.specs.Kinds.{transformText}
+use Rattle.content.specs.Kinds.{transformText, positionText}
 use Rattle.content.specs.Tree as tree
 use Rattle.content.specs.Check.{deepest}
 use Rattle.message.specs.Message.{Message, encode}
@@ -21,8 +21,10 @@ use Rattle.message.specs.Samples.{armMessage, armBytes, armContent}
 use Rattle.message.proofs.Samples.{samples}
 use Rattle.message.proofs.Laws.Messages.{demand-2}
 use Rattle.history.specs.Calls.{add, linkUp, linkDown, message, look, Answer, refused, green, grey}
-use Rattle.history.specs.Summary.{isAllowed, allowedFault, clockFault}
-use Rattle.history.specs.History.{valueFor}
+use Rattle.history.specs.Reading.{Reader}
+use Rattle.history.specs.Summary.{Summary, isAllowed, allowedFault, clockFault, numberOn}
+use Rattle.history.specs.History.{valueFor, Shown}
+use Rattle.history.proofs.Books.{books}
 use Rattle.panel.specs.declared.Label.{Label}
 use Rattle.panel.specs.declared.Value.{Value}
 use Rattle.panel.specs.declared.LookAnswer.{LookAnswer}
@@ -38,6 +40,7 @@ use Rattle.history.proofs.Laws.Readings.{begins-one, one-step}
 use Rattle.panel.proofs.Laws.Contents.{bytesOf, pose-short, value-bytes}
 use Rattle.panel.proofs.Laws.Faults.{panel-changed}
 use Rattle.panel.proofs.Laws.Checked.{begun-label, begun-value}
+use Rattle.panel.proofs.Laws.Demand3.{demand-3}
 
 abbrev arm : Label
 arm = labelOf transformText armText
@@ -121,8 +124,14 @@ examples =
       arm-p11 = ap (λ (p : Panel). answerTo p (look 0 1701)) arm-panel;
       arm-p11-before = ap (λ (p : Panel). answerTo p (look 0 1199)) arm-panel;
       arm-p12 = ap (λ (p : Panel). answerTo (panelNext p (linkUp 1400)) (look 0 1400)) arm-panel;
+      -- the look is not refused by the book, so it shows what the history says
+      arm-shown = λ R.
+          subst (Shown R armBytesCalls 0 1700) (ap (λ (p : Panel). answerTo p (look 0 1700)) arm-panel)
+          (demand-3 .claim R armBytesCalls (tt, (tt, (books .calls .1 .1 .0, tt))) .after 0 1700 .acceptance
+          (ap (λ (b : Summary). numberOn R b (look 0 1700)) (books .on-books R .arm)));
       arm-added = refl;
       arm-twice = ap (λ (p : Panel). addOf p transformText armText 500 .answer) arm-panel;
+      arm-second = ap (λ (p : Panel). addOf p positionText armText 500 .answer) arm-panel;
       arm-late = ap (λ (p : Panel). linkOf true p 1199 .number) arm-panel;
       arm-counted =
           ap (λ (s : List ℕ). messageOf linkedPanel 1200 s .number) (sym (samples .arm .bytes))

@@ -5,12 +5,13 @@ use mathlib.Core.Path.{_≡_}
 use mathlib.Core.Bool.{true}
 use mathlib.Core.List.{List, [], _∷_, _++_}
 use lib.ListN.{replicate}
-use Rattle.content.specs.Kinds.{transformText}
+use Rattle.content.specs.Kinds.{transformText, positionText}
 use Rattle.content.specs.Tree.{typeText}
 use Rattle.message.specs.Message.{Message, WellFormed, encode}
 use Rattle.message.specs.Samples.{armMessage, armBytes, armContent}
 use Rattle.history.specs.Calls.{Call, add, linkUp, linkDown, message, look, Answer, refused, accepted, added, empty, green, grey}
-use Rattle.history.specs.History.{valueFor}
+use Rattle.history.specs.Reading.{Reader}
+use Rattle.history.specs.History.{valueFor, Shown}
 use Rattle.panel.specs.declared.Value.{Value}
 use Rattle.panel.specs.declared.AddAnswer.the-variants as add-answer
 use Rattle.panel.specs.declared.LookAnswer.{LookAnswer}
@@ -69,9 +70,12 @@ pub record Examples : Type 0 where
   pub arm-p11 : looked armBytesCalls 1701 ≡ grey 501 armContent
   pub arm-p11-before : looked armBytesCalls 1199 ≡ refused 15
   pub arm-p12 : looked (armBytesCalls ++ (linkUp 1400 ∷ [])) 1400 ≡ grey 200 armContent
-  -- the same in the code's words: the add, and another; a link call; the message; looks
+  -- and the words of demand 3
+  pub arm-shown : (R : Reader) → Shown R armBytesCalls 0 1700 (green 500 armContent)
+  -- the same in the code's words: three adds; a link call; the message; looks
   pub arm-added : addOf freshPanel transformText armText 500 .answer ≡ add-answer.Added 0
   pub arm-twice : addOf (panelAfter armBytesCalls) transformText armText 500 .answer ≡ add-answer.Refused 17
+  pub arm-second : addOf (panelAfter armBytesCalls) positionText armText 500 .answer ≡ add-answer.Added 1
   pub arm-late : linkOf true (panelAfter armBytesCalls) 1199 .number ≡ 15
   pub arm-counted : messageOf (panelAfter (add transformText armText 500 ∷ linkUp 1000 ∷ [])) 1200 armBytes .number ≡ 0
   pub arm-green : ArmLook 0 1700 (look-answer.Green 500) armValue
