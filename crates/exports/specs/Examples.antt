@@ -5,7 +5,6 @@ use mathlib.Core.List.{List, [], _∷_, map}
 use lib.ListN.{replicate}
 use Rattle.fields.specs.Layout.{join}
 use Rattle.message.specs.declared.Answer.{Answer}
-use Rattle.message.specs.Message.{Parts}
 use Rattle.replay.specs.declared.CallAnswer.{CallAnswer}
 use Rattle.replay.specs.declared.CallAnswer.the-variants.{Accepted, Added, Empty, Green, Grey, Refused, NoCall}
 use Rattle.exports.specs.Exports.{answerBytes, messageGiven, answerCode, carriedNumber, answeredBytes}

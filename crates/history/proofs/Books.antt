@@ -43,8 +43,12 @@ module _ (R : Reader) where
       record {
         short = read-none (take 57 armBytes) 0 0 (bytes-below (take 57 armBytes) refl) (message.examples .p4 (take 57 armBytes) refl);
         damaged = read-none damagedBytes 4 106 (bytes-below damagedBytes refl) (samples .arm .damaged);
-        more = read-as (armBytes ++ (7 ∷ [])) leftOver (bytes-below (armBytes ++ (7 ∷ [])) refl) (left armBytes armMessage (samples .arm .well) (samples .arm .bytes));
-        other-more = read-as (probeBytes ++ (7 ∷ [])) leftOver (bytes-below (probeBytes ++ (7 ∷ [])) refl) (left probeBytes probeMessage (samples .probe .well) (samples .probe .bytes));
+        more =
+            read-as (armBytes ++ (7 ∷ [])) leftOver (bytes-below (armBytes ++ (7 ∷ [])) refl)
+            (left armBytes armMessage (samples .arm .well) (samples .arm .bytes));
+        other-more =
+            read-as (probeBytes ++ (7 ∷ [])) leftOver (bytes-below (probeBytes ++ (7 ∷ [])) refl)
+            (left probeBytes probeMessage (samples .probe .well) (samples .probe .bytes));
         arm = read-as armBytes (oneMessage armMessage) (bytes-below armBytes refl) (one armMessage (samples .arm .well) (samples .arm .bytes));
       }
 

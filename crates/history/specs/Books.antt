@@ -9,7 +9,7 @@ use Rattle.fields.specs.Lists.{Each}
 use Rattle.content.specs.Kinds.{transformText, positionText}
 use Rattle.message.specs.Samples.{armMessage, armBytes, probeBytes}
 use Rattle.history.specs.Calls.{Call, add, linkUp, linkDown, message, look, OfBytes}
-use Rattle.history.specs.Reading.{Reading, noMessage, leftOver, oneMessage, Reader}
+use Rattle.history.specs.Reading.{noMessage, leftOver, oneMessage, Reader}
 use Rattle.history.specs.Summary.{Entry, Summary, freshSummary, numberOn, next, summaryOf}
 use Rattle.history.specs.Examples.{nameOf}
 
@@ -65,11 +65,19 @@ module _ (R : Reader) where
   pub record OnBooks : Type 0 where
     -- fifteen tiles: there is room for a sixteenth; another type is another tile; 17; 16 before 17
     pub fifteen : numbersOn (bookOf (tilesTo 15) false 0)
-        (add transformText (nameOf 16) 500 ∷ add positionText (nameOf 15) 500 ∷ add transformText (nameOf 15) 500 ∷ add transformText (nameOf 15) 0 ∷ [])
+        (add transformText (nameOf 16) 500
+        ∷ add positionText (nameOf 15) 500
+        ∷ add transformText (nameOf 15) 500
+        ∷ add transformText (nameOf 15) 0
+        ∷ [])
         ≡ 0 ∷ 0 ∷ 17 ∷ 16 ∷ []
     -- sixteen: 18; 17 before 18, of the first tile and the last; 16 before 18
     pub sixteen : numbersOn (bookOf (tilesTo 16) false 0)
-        (add transformText (nameOf 17) 500 ∷ add transformText (nameOf 1) 500 ∷ add transformText (nameOf 16) 500 ∷ add transformText (nameOf 17) 0 ∷ [])
+        (add transformText (nameOf 17) 500
+        ∷ add transformText (nameOf 1) 500
+        ∷ add transformText (nameOf 16) 500
+        ∷ add transformText (nameOf 17) 0
+        ∷ [])
         ≡ 18 ∷ 17 ∷ 17 ∷ 16 ∷ []
     -- link calls: 15
     pub links : numbersOn (bookOf armTiles true 1200) (linkUp 1199 ∷ linkUp 1200 ∷ linkDown 1199 ∷ linkDown 1200 ∷ []) ≡ 15 ∷ 0 ∷ 15 ∷ 0 ∷ []
@@ -96,10 +104,11 @@ module _ (R : Reader) where
     -- looks: tile 15 of sixteen; 19; 19 before 15; 15. The link does not matter
     pub looks : numbersOn (bookOf (tilesTo 16) false 1200) (look 15 1200 ∷ look 16 1200 ∷ look 16 1199 ∷ look 15 1199 ∷ [])
         ≡ 0 ∷ 19 ∷ 19 ∷ 15 ∷ []
-    -- what is noted: an add's tile stands after the others; link and clock of a link call; the clock of a message that counts; nothing of a look
+    -- what is noted: an add's tile, after the others; link and clock of a link call; the clock of a message that counts; nothing of a look
     pub added : next R (bookOf armTiles true 1200) (add positionText armName 60000)
         ≡ bookOf (tileOf transformText armName ∷ record { typeText = positionText; name = armName; holdTime = 60000 } ∷ []) true 1200
-    pub linked : booksAfter (bookOf armTiles true 1200) (linkUp 1300 ∷ linkDown 1300 ∷ []) ≡ bookOf armTiles true 1300 ∷ bookOf armTiles false 1300 ∷ []
+    pub linked : booksAfter (bookOf armTiles true 1200) (linkUp 1300 ∷ linkDown 1300 ∷ [])
+        ≡ bookOf armTiles true 1300 ∷ bookOf armTiles false 1300 ∷ []
     pub counted : booksAfter (bookOf armTiles true 1200) (message 1300 armBytes ∷ look 0 1300 ∷ [])
         ≡ bookOf armTiles true 1300 ∷ bookOf armTiles true 1200 ∷ []
     -- nothing of a refused call: 17; 15 and 15; 15, 5 and 12; 19
@@ -117,7 +126,13 @@ module _ (R : Reader) where
     pub arm : summaryOf R armCalls ≡ bookOf armTiles true 1200
     -- a message while the link is down, an add, a link up, a message, a look, another add
     pub after : summaryOf R
-        (message 900 armBytes ∷ add transformText armName 500 ∷ linkUp 1000 ∷ message 1200 armBytes ∷ look 0 1700 ∷ add transformText (nameOf 1) 500 ∷ [])
+        (message 900 armBytes
+        ∷ add transformText armName 500
+        ∷ linkUp 1000
+        ∷ message 1200 armBytes
+        ∷ look 0 1700
+        ∷ add transformText (nameOf 1) 500
+        ∷ [])
         ≡ bookOf (tileOf transformText armName ∷ tileOf transformText (nameOf 1) ∷ []) true 1200
 
 pub record Books : Type 0 where

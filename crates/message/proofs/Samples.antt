@@ -1,8 +1,8 @@
 -- The samples, by computation; the largest bodies by the lengths of their parts.
-use Prim.Native.Nat.{ℕ, _+_, _^_}
-use mathlib.Core.Path.{_≡_, refl, sym, ap, _∙_}
+use Prim.Native.Nat.{ℕ, _^_}
+use mathlib.Core.Path.{_≡_, refl}
 use mathlib.Core.Logic.{inl, inr}
-use mathlib.Core.List.{List, [], _∷_, append-nil}
+use mathlib.Core.List.{[], _∷_, append-nil}
 use native.Mathlib.Omega.{arith}
 use Rattle.fields.specs.Bytes.{same, sized}
 use Rattle.fields.specs.Lists.{all, flat}
@@ -12,7 +12,7 @@ use Rattle.fields.specs.Answer.{writtenOf, roomFault, outAfter}
 use Rattle.crc64.specs.Crc.{bitStep, run, bitAt, bitsOf, bits, crcOf}
 use Rattle.header.specs.Header.{encodeHeader}
 use Rattle.header.specs.Check.{headerOf, shortFault, textsFault, limitFault, headerFault, namesFault}
-use Rattle.metadata.specs.Metadata.{entryHeader, entryData, encodeMetadata, WellMetadata}
+use Rattle.metadata.specs.Metadata.{WellEntry, entryHeader, entryData, encodeMetadata, WellMetadata}
 use Rattle.metadata.specs.Check.{entryOk, entriesOk, sectionOk, metadataFault}
 use Rattle.pose.specs.Words.{wordBytes}
 use Rattle.pose.specs.Transform.{transformFault}
@@ -55,6 +55,18 @@ arm-well =
       size-limit = omega arith;
     }
 
+entry-well : WellEntry (record { key = 75 ∷ []; encoding = 0x5152; value = 0x61 ∷ 0x62 ∷ [] })
+unfolding isText all
+entry-well =
+    record {
+      key-text = is-text (75 ∷ []) refl;
+      key-some = omega arith;
+      key-fits = omega arith;
+      encoding-fits = omega arith;
+      value-bytes = bytes-below (0x61 ∷ 0x62 ∷ []) refl;
+      value-fits = omega arith;
+    }
+
 probe-well : WellFormed probeMessage
 unfolding encodeMetadata entryHeader entryData WellMetadata tree.WellFormed tree.encode encodeBody flat beBytes isText all
 probe-well =
@@ -63,10 +75,17 @@ probe-well =
           record { type-text = is-text statusText refl; type-fits = omega arith; name-text = is-text probeText refl; name-fits = omega arith };
       stamp-fits = omega arith;
       sections =
-          inr
-          (refl, record { id-fits = omega arith; further-bytes = bytes-below (probeMessage .further) refl; further-fits = omega arith; metadata-fits = omega arith });
+          inr (
+            refl,
+            record {
+              id-fits = omega arith;
+              further-bytes = bytes-below (probeMessage .further) refl;
+              further-fits = omega arith;
+              metadata-fits = omega arith;
+            },
+          );
       content = (opaque, bytes-below (0x41 ∷ 0x42 ∷ 0x43 ∷ []) refl);
-      metadata = (omega arith, (record { key-text = is-text (75 ∷ []) refl; key-some = omega arith; key-fits = omega arith; encoding-fits = omega arith; value-bytes = bytes-below (0x61 ∷ 0x62 ∷ []) refl; value-fits = omega arith }, tt));
+      metadata = (omega arith, (entry-well, tt));
       size-limit = omega arith;
     }
 

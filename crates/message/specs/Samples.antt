@@ -1,13 +1,12 @@
--- Whole messages byte by byte, with what the reader answers to them and what the writer makes of their parts; and short inputs, one for each
--- number of the reader and the writer. They fix the order of the fields, the limits and the order of the checks.
+-- Whole messages byte by byte, with what the reader answers to them and what the writer makes of their parts; and short inputs, one for
+-- each number of the reader and the writer. They fix the order of the fields, the limits and the order of the checks.
 use Prim.Native.Nat.{ℕ, _-_}
 use mathlib.Core.Path.{_≡_}
-use mathlib.Core.Bool.{Bool, true, false}
+use mathlib.Core.Bool.{true, false}
 use mathlib.Core.List.{List, [], _∷_, _++_, map}
 use lib.ListN.{length, take, drop, replicate}
 use Rattle.fields.specs.declared.Written.{Written}
 use Rattle.fields.specs.declared.Written.the-variants.{Wrote, Refused}
-use Rattle.fields.specs.Bytes.{Bytes}
 use Rattle.fields.specs.Numbers.{beBytes}
 use Rattle.fields.specs.Text.{textBytes}
 use Rattle.fields.specs.Layout.{join}
@@ -265,9 +264,14 @@ pub record Samples : Type 0 where
       ∷ [])
       ≡ refused 1 0 ∷ refused 2 0 ∷ refused 3 0 ∷ refused 1 0 ∷ refused 1 0 ∷ emptyAnswer ∷ []
   -- 4 before 5: V 0, 3 and 256 with another CRC; 5 before 6: in V 2 a body of one byte with another CRC
-  pub version-crc : answersTo (streamOf 0 [] 1 (0 ∷ []) ∷ streamOf 3 [] 1 (0 ∷ []) ∷ streamOf 256 [] 1 (0 ∷ []) ∷ streamOf 2 [] 1 (0 ∷ []) ∷ [])
+  pub version-crc : answersTo
+      (streamOf 0 [] 1 (0 ∷ [])
+      ∷ streamOf 3 [] 1 (0 ∷ [])
+      ∷ streamOf 256 [] 1 (0 ∷ [])
+      ∷ streamOf 2 [] 1 (0 ∷ [])
+      ∷ [])
       ≡ refused 4 59 ∷ refused 4 59 ∷ refused 4 59 ∷ refused 5 59 ∷ []
-  -- 6: a body of 11; EXT_HEADER_SIZE 11; the reserved word; the sizes 13 and 0, 12 and 1 of a body of 12. 6 before 7: metadata of one byte too
+  -- 6: a body of 11; EXT_HEADER_SIZE 11; the reserved word; sizes of 13 and 0, 12 and 1 in a body of 12. 6 before 7: metadata of one byte
   pub extended : answersTo
       (soundOf 2 transformText (replicate 11 0)
       ∷ soundOf 2 transformText (bodyWith 11 0 0 [])
@@ -286,10 +290,21 @@ pub record Samples : Type 0 where
       ≡ refused 7 71 ∷ refused 8 72 ∷ refused 8 70 ∷ []
   -- ---- the writer, rules 5.8, 5.9 and 5.11
   -- 2: a TYPE of 13 bytes, with a byte 0, with a byte 128; a DEVICE_NAME of 21. 2 before 4; 4
-  pub names : writesNames (replicate 13 65) [] ∷ writesNames (0 ∷ []) [] ∷ writesNames (128 ∷ []) [] ∷ writesNames [] (replicate 21 65) ∷ writesNames (replicate 12 65) (replicate 20 127) ∷ []
+  pub names : writesNames (replicate 13 65) []
+      ∷ writesNames (0 ∷ []) []
+      ∷ writesNames (128 ∷ []) []
+      ∷ writesNames [] (replicate 21 65)
+      ∷ writesNames (replicate 12 65) (replicate 20 127)
+      ∷ []
       ≡ Refused 2 ∷ Refused 2 ∷ Refused 2 ∷ Refused 2 ∷ Refused 4 ∷ []
   -- 4 before 6: V 3 with a MSG_ID; 6: V 1 with a MSG_ID, further bytes, metadata. 6 before 7, 7 before 8, 8 before 20
-  pub parts : writes 3 1 [] [] 0 ∷ writes 1 1 [] [] 0 ∷ writes 1 0 (7 ∷ []) [] 0 ∷ writes 1 0 [] (0 ∷ []) 0 ∷ writes 2 1 [] (0 ∷ []) 0 ∷ writes 2 1 [] [] 0 ∷ []
+  pub parts : writes 3 1 [] [] 0
+      ∷ writes 1 1 [] [] 0
+      ∷ writes 1 0 (7 ∷ []) [] 0
+      ∷ writes 1 0 [] (0 ∷ []) 0
+      ∷ writes 2 1 [] (0 ∷ []) 0
+      ∷ writes 2 1 [] [] 0
+      ∷ []
       ≡ Refused 4 ∷ Refused 6 ∷ Refused 6 ∷ Refused 6 ∷ Refused 7 ∷ Refused 8 ∷ []
   -- the longest further bytes and metadata of V 2, and one byte more of each
   pub size-fields : fits 2 0 65523 65535 ∷ fits 2 0 65524 0 ∷ fits 2 0 0 65536 ∷ [] ≡ true ∷ false ∷ false ∷ []

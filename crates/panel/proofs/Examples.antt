@@ -17,11 +17,10 @@ use Rattle.content.specs.Check.{deepest}
 use Rattle.message.specs.Message.{Message, encode}
 use Rattle.message.specs.Check.{readOf}
 use Rattle.message.specs.Demand2.{Begins}
-use Rattle.message.specs.Samples.{armMessage, armBytes, armContent}
+use Rattle.message.specs.Samples.{armMessage, armContent}
 use Rattle.message.proofs.Samples.{samples}
 use Rattle.message.proofs.Laws.Messages.{demand-2}
 use Rattle.history.specs.Calls.{add, linkUp, linkDown, message, look, Answer, refused, green, grey}
-use Rattle.history.specs.Reading.{Reader}
 use Rattle.history.specs.Summary.{Summary, isAllowed, allowedFault, clockFault, numberOn}
 use Rattle.history.specs.History.{valueFor, Shown}
 use Rattle.history.proofs.Books.{books}
@@ -104,7 +103,8 @@ arm-panel =
     ∙ counted-panel armMessage arm-from
     ∙ ap (λ (c : List ℕ). countedPanel (valueOf c)) arm-value
 
-arm-look : (i now : ℕ) (a : LookAnswer) (v : Value) → (let p = countedPanel (valueOf armContent) in lookOf p i now ≡ record { panel = p; answer = a; value = v })
+arm-look : (i now : ℕ) (a : LookAnswer) (v : Value)
+    → (let p = countedPanel (valueOf armContent) in lookOf p i now ≡ record { panel = p; answer = a; value = v })
     → ArmLook i now a v
 arm-look i now a v = subst (λ (p : Panel). lookOf p i now ≡ record { panel = p; answer = a; value = v }) (sym arm-panel)
 

@@ -2,13 +2,13 @@
 use Prim.Native.Nat.{ℕ}
 use mathlib.Core.Path.{_≡_, refl, ap, _∙_}
 use mathlib.Core.Bool.{cond}
-use mathlib.Core.List.{List, [], _∷_, _++_}
+use mathlib.Core.List.{[], _∷_, _++_}
 use lib.Dec.{eqb}
 use Rattle.fields.specs.Bytes.{same, sized}
 use Rattle.fields.specs.Lists.{all, any}
 use Rattle.fields.specs.Numbers.{beVal}
 use Rattle.fields.specs.Text.{isText}
-use Rattle.history.specs.Calls.{Call, look}
+use Rattle.history.specs.Calls.{look}
 use Rattle.history.specs.Summary.{isAllowed, allowedFault, clockFault}
 use Rattle.panel.specs.declared.Panel.{Panel}
 use Rattle.panel.specs.declared.Value.{Value}
@@ -38,7 +38,8 @@ after-looks =
     ∙ demand-3 .looked (panelAfter armBytesCalls) 0 1700
 
 -- what a look after P10's calls answers
-looked : (i now : ℕ) (a : LookAnswer) (v : Value) → ArmLook i now a v → afterLook (lookOf (panelAfter armBytesCalls) i now) .answered ≡ record { answer = shownAs a; value = v }
+looked : (i now : ℕ) (a : LookAnswer) (v : Value) → ArmLook i now a v
+    → afterLook (lookOf (panelAfter armBytesCalls) i now) .answered ≡ record { answer = shownAs a; value = v }
 looked i now a v e = ap (λ (r : LookResult). afterLook r .answered) e
 
 pub examples : Examples

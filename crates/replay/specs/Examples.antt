@@ -2,11 +2,11 @@
 use Prim.Native.Nat.{ℕ}
 use mathlib.Core.Path.{_≡_}
 use mathlib.Core.List.{List, [], _∷_, _++_, map}
-use mathlib.Core.Option.{Option, none, some}
+use mathlib.Core.Option.{none, some}
 use lib.ListN.{replicate}
 use Rattle.fields.specs.Layout.{join}
 use Rattle.message.specs.Samples.{armBytes}
-use Rattle.history.specs.Calls.{Call, add, linkUp, linkDown, message, look, Answer, refused, accepted, added, empty, green, grey}
+use Rattle.history.specs.Calls.{Call, add, linkUp, linkDown, message, look, refused, accepted, added, empty, green, grey}
 use Rattle.panel.specs.Examples.{armValue, zeroValue}
 use Rattle.replay.specs.declared.CallAnswer.{CallAnswer}
 use Rattle.replay.specs.declared.CallAnswer.the-variants.{Accepted, Added, Empty, Green, Grey, Refused, NoCall}

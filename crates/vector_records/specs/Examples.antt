@@ -12,4 +12,5 @@ pub record Examples : Type 0 where
   pub cut-short : isWhole (0 ∷ 2 ∷ 7 ∷ []) ≡ false
   pub wide : isWhole (1 ∷ 0 ∷ replicate 255 0) ≡ false
   -- 07 08 at place 1, then 09 0A at place 2; a patch of five bytes is none
-  pub patches : patched (0 ∷ 0 ∷ 0 ∷ 1 ∷ 7 ∷ 8 ∷ 0 ∷ 0 ∷ 0 ∷ 2 ∷ 9 ∷ 10 ∷ 0 ∷ 0 ∷ 0 ∷ 0 ∷ 6 ∷ []) (1 ∷ 2 ∷ 3 ∷ 4 ∷ 5 ∷ []) ≡ 1 ∷ 7 ∷ 9 ∷ 10 ∷ 5 ∷ []
+  pub patches : patched (0 ∷ 0 ∷ 0 ∷ 1 ∷ 7 ∷ 8 ∷ 0 ∷ 0 ∷ 0 ∷ 2 ∷ 9 ∷ 10 ∷ 0 ∷ 0 ∷ 0 ∷ 0 ∷ 6 ∷ []) (1 ∷ 2 ∷ 3 ∷ 4 ∷ 5 ∷ [])
+      ≡ 1 ∷ 7 ∷ 9 ∷ 10 ∷ 5 ∷ []

@@ -36,17 +36,22 @@ module _ (which clock number : ℕ) (x y rest : List ℕ) where
   widths = 1 ∷ 8 ∷ 8 ∷ 4 ∷ 4 ∷ length x ∷ length y ∷ []
 
   wide : Widths (callFields which clock number x y) widths
-  wide = (length-beBytes 1 which, (length-beBytes 8 clock, (length-beBytes 8 number, (length-beBytes 4 (length x), (length-beBytes 4 (length y), (refl, (refl, tt)))))))
+  wide = (
+    length-beBytes 1 which,
+    (length-beBytes 8 clock, (length-beBytes 8 number, (length-beBytes 4 (length x), (length-beBytes 4 (length y), (refl, (refl, tt)))))),
+  )
 
   -- the field at a place
   field-at : (i : ℕ) → getD (cut 0 widths script) i [] ≡ getD (callFields which clock number x y) i []
   field-at i = ap (λ (l : List (List ℕ)). getD l i []) (cut-join [] (callFields which clock number x y) widths rest 0 refl wide)
 
   -- a number's
-  number-at : (i n v : ℕ) → v < 256 ^ n → getD (callFields which clock number x y) i [] ≡ beBytes n v → v ≡ beVal (getD (cut 0 widths script) i [])
+  number-at : (i n v : ℕ) → v < 256 ^ n → getD (callFields which clock number x y) i [] ≡ beBytes n v
+      → v ≡ beVal (getD (cut 0 widths script) i [])
   number-at i n v h e = sym (ap beVal (field-at i ∙ e) ∙ beVal-beBytes n v h)
 
-  front : which < 256 → clock < 256 ^ 8 → number < 256 ^ 8 → length x < 256 ^ 4 → length y < 256 ^ 4 → Front script which clock number x y rest
+  front : which < 256 → clock < 256 ^ 8 → number < 256 ^ 8 → length x < 256 ^ 4 → length y < 256 ^ 4
+      → Front script which clock number x y rest
   front w c n f l =
       let a : length x ≡ beAt 4 17 script = number-at 3 4 (length x) f refl in
       let b : length y ≡ beAt 4 21 script = number-at 4 4 (length y) l refl in
