@@ -1,8 +1,8 @@
 -- The samples, by computation; the largest bodies by the lengths of their parts.
 use Prim.Native.Nat.{ℕ, _^_}
-use mathlib.Core.Path.{_≡_, refl}
+use mathlib.Core.Path.{_≡_, refl, ap₂}
 use mathlib.Core.Logic.{inl, inr}
-use mathlib.Core.List.{[], _∷_, append-nil}
+use mathlib.Core.List.{List, [], _∷_, append-nil}
 use native.Mathlib.Omega.{arith}
 use Rattle.fields.specs.Bytes.{same, sized}
 use Rattle.fields.specs.Lists.{all, flat}
@@ -19,6 +19,7 @@ use Rattle.pose.specs.Transform.{transformFault}
 use Rattle.content.specs.Kinds.{transformText, kindOf}
 use Rattle.content.specs.Check.{contentFault}
 use Rattle.content.specs.Tree as tree
+use Rattle.content.proofs.Examples as content
 use Rattle.content.specs.Tree.{Opaque}
 use Rattle.message.specs.Body.{encodeBody}
 use Rattle.message.specs.Message.{encodeParts, encode, WellFormed}
@@ -132,6 +133,7 @@ samples =
       version-crc = refl;
       extended = refl;
       sections = refl;
+      levels = ap₂ {C = List ℕ} (λ a b. a ∷ b ∷ []) (content.examples .level-4) (content.examples .level-5);
       names = refl;
       parts = refl;
       size-fields = refl;

@@ -12,12 +12,14 @@ use Rattle.fields.specs.Text.{textBytes}
 use Rattle.fields.specs.Layout.{join}
 use Rattle.crc64.specs.Crc.{crcOf}
 use Rattle.metadata.specs.Metadata.{absent, section}
-use Rattle.content.specs.Kinds.{transformText}
+use Rattle.content.specs.Kinds.{transformText, bindText}
+use Rattle.content.specs.Examples.{noChildren, within}
 use Rattle.content.specs.Tree.{transform, other}
 use Rattle.message.specs.declared.Answer.{Answer}
 use Rattle.message.specs.declared.FixedFields.{FixedFields}
+use Rattle.message.specs.Body.{Sections}
 use Rattle.message.specs.Message.{Message, WellFormed, encode}
-use Rattle.message.specs.Check.{refused, readOf, typeIn, nameIn, furtherIn, contentIn, metadataIn}
+use Rattle.message.specs.Check.{sectionsFault, refused, readOf, typeIn, nameIn, furtherIn, contentIn, metadataIn}
 use Rattle.message.specs.Writer.{given, fits, messageWritten, messageOut}
 
 -- ---- V 1: a TRANSFORM from the device "Arm"
@@ -191,6 +193,10 @@ bodyWith extendedSize metadataSize reserved metadata =
 abbrev pub answersTo : List (List ℕ) → List Answer
 answersTo ss = map readOf ss
 
+-- the sections of V 1 with this content
+abbrev pub contentAlone : List ℕ → Sections
+contentAlone c = record { id = 0; further = []; content = c; metadata = [] }
+
 -- ---- short writes
 
 -- MSG_ID, further bytes, an empty TRANSFORM, metadata and room
@@ -288,6 +294,11 @@ pub record Samples : Type 0 where
       ∷ soundOf 2 transformText (bodyWith 12 0 0 [])
       ∷ [])
       ≡ refused 7 71 ∷ refused 8 72 ∷ refused 8 70 ∷ []
+  -- a BIND down to level 4, and one to level 5 (rule 4.15), as the reader and the writer judge it
+  pub levels : sectionsFault bindText (contentAlone (within (within (within noChildren))))
+      ∷ sectionsFault bindText (contentAlone (within (within (within (within noChildren)))))
+      ∷ []
+      ≡ 0 ∷ 11 ∷ []
   -- ---- the writer, rules 5.8, 5.9 and 5.11
   -- 2: a TYPE of 13 bytes, with a byte 0, with a byte 128; a DEVICE_NAME of 21. 2 before 4; 4
   pub names : writesNames (replicate 13 65) []

@@ -2,7 +2,7 @@
 use Prim.Native.Nat.{ℕ, _≤_}
 use mathlib.Core.Path.{_≡_, refl, sym, ap, ap₂, subst, _∙_}
 use mathlib.Core.Logic.{inl}
-use mathlib.Core.Bool.{true, cond}
+use mathlib.Core.Bool.{Bool, true, cond}
 use mathlib.Core.List.{List, [], _∷_, map}
 use native.Mathlib.Omega.{arith}
 use lib.ListN.{length}
@@ -13,6 +13,7 @@ use Rattle.fields.specs.Text.{isText}
 use Rattle.pose.specs.Words.{wordBytes}
 use Rattle.content.specs.Kinds.{transformText, positionText}
 use Rattle.content.specs.Tree as tree
+use Rattle.fields.proofs.Laws.Checks.{else-zero}
 use Rattle.content.specs.Check.{deepest}
 use Rattle.message.specs.Message.{Message, encode}
 use Rattle.message.specs.Check.{readOf}
@@ -20,7 +21,7 @@ use Rattle.message.specs.Demand2.{Begins}
 use Rattle.message.specs.Samples.{armMessage, armContent}
 use Rattle.message.proofs.Samples.{samples}
 use Rattle.message.proofs.Laws.Messages.{demand-2}
-use Rattle.history.specs.Calls.{add, linkUp, linkDown, message, look, Answer, refused, green, grey}
+use Rattle.history.specs.Calls.{add, linkUp, linkDown, message, look, Answer, refused, empty, green, grey}
 use Rattle.history.specs.Summary.{Summary, isAllowed, allowedFault, clockFault, numberOn}
 use Rattle.history.specs.History.{valueFor, Shown}
 use Rattle.history.proofs.Books.{books}
@@ -48,9 +49,19 @@ arm = labelOf transformText armText
 abbrev linkedPanel : Panel
 linkedPanel = panelAfter (add transformText armText 500 ∷ linkUp 1000 ∷ [])
 
--- and after the message with this value
-abbrev countedPanel : Value → Panel
-countedPanel v = record { tiles = map (countedFor arm 1200 v) (linkedPanel .tiles); link = record { up = true; clock = 1200 } }
+-- the same with a POSITION tile of that name before it
+abbrev twoPanel : Panel
+twoPanel = panelAfter (add positionText armText 500 ∷ add transformText armText 500 ∷ linkUp 1000 ∷ [])
+
+-- a panel after a message from Arm with this clock and value
+abbrev countedPanel : Panel → ℕ → Value → Panel
+countedPanel p t v = record { tiles = map (countedFor arm t v) (p .tiles); link = record { up = true; clock = t } }
+
+-- a panel on which such a message counts
+record Counts (p : Panel) (t : ℕ) : Type 0 where
+  in-time : clockFault (p .link .clock) t ≡ 0
+  is-up : p .link .up ≡ true
+  has-arm : any (isTile arm) (p .tiles) ≡ true
 
 module _ (m : Message) (f : FromArm m) where
   front : Begins (encode m) m
@@ -59,33 +70,39 @@ module _ (m : Message) (f : FromArm m) where
   label-is : labelIn (encode m) (readOf (encode m)) ≡ arm
   label-is = begun-label (encode m) m front ∙ ap₂ labelOf (f .is-transform) (f .is-arm)
 
-  read-fault : readFault (linkedPanel .tiles) (encode m) (readOf (encode m)) ≡ 0
-  unfolding panelAfter addOf addFault linkOf allowedFault isAllowed clockFault same sized any isText all
-  read-fault =
-      read-whole (linkedPanel .tiles) (encode m) (readOf (encode m)) (demand-2 .begun (encode m) m front)
-      (omega (arith, one-step (encode m) m (f .well) refl))
-      ∙ ap (λ (l : Label). cond (any (isTile l) (linkedPanel .tiles)) 0 13) label-is
+  module _ (p : Panel) (t : ℕ) (c : Counts p t) where
+    read-fault : readFault (p .tiles) (encode m) (readOf (encode m)) ≡ 0
+    read-fault =
+        read-whole (p .tiles) (encode m) (readOf (encode m)) (demand-2 .begun (encode m) m front)
+        (omega (arith, one-step (encode m) m (f .well) refl))
+        ∙ ap (λ (l : Label). cond (any (isTile l) (p .tiles)) 0 13) label-is
+        ∙ ap (λ (b : Bool). cond b 0 13) (c .has-arm)
 
-  message-fault : messageFault linkedPanel 1200 (encode m) ≡ 0
-  unfolding messageFault panelAfter addOf addFault linkOf allowedFault isAllowed clockFault same sized any isText all
-  message-fault = read-fault
+    message-fault : messageFault p t (encode m) ≡ 0
+    unfolding messageFault
+    message-fault =
+        else-zero (clockFault (p .link .clock) t) _ (c .in-time)
+        (else-zero (cond (p .link .up) 0 14) _ (ap (λ (b : Bool). cond b 0 14) (c .is-up)) read-fault)
 
-  counted-panel : panelAfter (armCalls m) ≡ countedPanel (valueOf (valueFor m))
-  unfolding panelAfter
-  counted-panel =
-      panel-changed linkedPanel (message 1200 (encode m)) message-fault
-      ∙ ap₂ (λ (l : Label) (v : Value). record { tiles = map (countedFor l 1200 v) (linkedPanel .tiles); link = record { up = true; clock = 1200 } })
-      label-is (begun-value (encode m) m front)
+    counted-panel : panelNext p (message t (encode m)) ≡ countedPanel p t (valueOf (valueFor m))
+    counted-panel =
+        panel-changed p (message t (encode m)) message-fault
+        ∙ ap₂ (λ (l : Label) (v : Value). record { tiles = map (countedFor l t v) (p .tiles); link = record { up = true; clock = t } })
+        label-is (begun-value (encode m) m front)
 
-  short : length (valueFor m) ≤ 48
-  short = pose-short (m .content) deepest (f .well .content) (inl (f .is-transform))
+    -- what a look shows after it and the next calls
+    shown : (next : Panel → Panel) (i now : ℕ) (a : List ℕ → Answer)
+        → answerTo (next (countedPanel p t (valueOf (valueFor m)))) (look i now) ≡ a (bytesOf (valueOf (valueFor m)))
+        → answerTo (next (panelNext p (message t (encode m)))) (look i now) ≡ a (valueFor m)
+    shown next i now a e =
+        ap (λ (q : Panel). answerTo (next q) (look i now)) counted-panel
+        ∙ e
+        ∙ ap a (value-bytes (valueFor m) (pose-short (m .content) deepest (f .well .content) (inl (f .is-transform))))
 
-  -- what a look shows after those calls and the next ones
-  shown : (next : Panel → Panel) (a : List ℕ → Answer) (now : ℕ)
-      → answerTo (next (countedPanel (valueOf (valueFor m)))) (look 0 now) ≡ a (bytesOf (valueOf (valueFor m)))
-      → answerTo (next (panelAfter (armCalls m))) (look 0 now) ≡ a (valueFor m)
-  shown next a now e =
-      ap (λ (p : Panel). answerTo (next p) (look 0 now)) counted-panel ∙ e ∙ ap a (value-bytes (valueFor m) short)
+-- it counts after the first two calls
+linked-counts : Counts linkedPanel 1200
+unfolding panelAfter addOf addFault linkOf allowedFault isAllowed clockFault same sized any isText all
+linked-counts = record { in-time = refl; is-up = refl; has-arm = refl }
 
 -- ---- the message from Arm that is given byte by byte
 
@@ -96,15 +113,15 @@ arm-value : valueFor armMessage ≡ armContent
 unfolding tree.encode wordBytes flat beBytes
 arm-value = refl
 
-arm-panel : panelAfter armBytesCalls ≡ countedPanel (valueOf armContent)
+arm-panel : panelAfter armBytesCalls ≡ countedPanel linkedPanel 1200 (valueOf armContent)
 unfolding panelAfter
 arm-panel =
     ap (λ (s : List ℕ). panelNext linkedPanel (message 1200 s)) (sym (samples .arm .bytes))
-    ∙ counted-panel armMessage arm-from
-    ∙ ap (λ (c : List ℕ). countedPanel (valueOf c)) arm-value
+    ∙ counted-panel armMessage arm-from linkedPanel 1200 linked-counts
+    ∙ ap (λ (c : List ℕ). countedPanel linkedPanel 1200 (valueOf c)) arm-value
 
 arm-look : (i now : ℕ) (a : LookAnswer) (v : Value)
-    → (let p = countedPanel (valueOf armContent) in lookOf p i now ≡ record { panel = p; answer = a; value = v })
+    → (let p = countedPanel linkedPanel 1200 (valueOf armContent) in lookOf p i now ≡ record { panel = p; answer = a; value = v })
     → ArmLook i now a v
 arm-look i now a v = subst (λ (p : Panel). lookOf p i now ≡ record { panel = p; answer = a; value = v }) (sym arm-panel)
 
@@ -112,12 +129,23 @@ pub examples : Examples
 unfolding panelAfter addOf addFault linkOf allowedFault isAllowed clockFault lookOf lookFault same sized any isText all
 examples =
     record {
-      p10 = λ m f. shown m f (λ p. p) (green 500) 1700 refl;
-      p11 = λ m f. shown m f (λ p. p) (grey 501) 1701 refl;
-      p11-before = λ m f. shown m f (λ p. p) (λ v. refused 15) 1199 refl;
-      p12 = λ m f. shown m f (λ p. panelNext p (linkUp 1400)) (grey 200) 1400 refl;
-      loose-cable = λ m f. shown m f (λ p. panelNext p (linkDown 1400)) (grey 200) 1400 refl;
-      reconnect = λ m f. shown m f (λ p. panelNext (panelNext p (linkDown 1300)) (linkUp 1400)) (grey 200) 1400 refl;
+      p10 = λ m f. shown m f linkedPanel 1200 linked-counts (λ p. p) 0 1700 (green 500) refl;
+      p11 = λ m f. shown m f linkedPanel 1200 linked-counts (λ p. p) 0 1701 (grey 501) refl;
+      p11-before = λ m f. shown m f linkedPanel 1200 linked-counts (λ p. p) 0 1199 (λ v. refused 15) refl;
+      p12 = λ m f. shown m f linkedPanel 1200 linked-counts (λ p. panelNext p (linkUp 1400)) 0 1400 (grey 200) refl;
+      loose-cable = λ m f. shown m f linkedPanel 1200 linked-counts (λ p. panelNext p (linkDown 1400)) 0 1400 (grey 200) refl;
+      reconnect = λ m f.
+          shown m f linkedPanel 1200 linked-counts (λ p. panelNext (panelNext p (linkDown 1300)) (linkUp 1400)) 0 1400 (grey 200) refl;
+      short-hold-time = λ m f.
+          shown m f (panelAfter (add transformText armText 499 ∷ linkUp 1000 ∷ [])) 1200 (record { in-time = refl; is-up = refl; has-arm = refl })
+          (λ p. p) 0 1700 (grey 500) refl;
+      refused-link = λ m f. shown m f linkedPanel 1200 linked-counts (λ p. panelNext p (linkUp 1199)) 0 1700 (green 500) refl;
+      second-message = λ m n f g.
+          ap (λ (p : Panel). answerTo (panelNext p (message 1300 (encode n))) (look 0 1700)) (counted-panel m f linkedPanel 1200 linked-counts)
+          ∙ shown n g (countedPanel linkedPanel 1200 (valueOf (valueFor m))) 1300 (record { in-time = refl; is-up = refl; has-arm = refl })
+          (λ p. p) 0 1700 (green 400) refl;
+      other-tile = λ m f. shown m f twoPanel 1200 (record { in-time = refl; is-up = refl; has-arm = refl }) (λ p. p) 0 1700 (λ v. empty) refl;
+      own-tile = λ m f. shown m f twoPanel 1200 (record { in-time = refl; is-up = refl; has-arm = refl }) (λ p. p) 1 1700 (green 500) refl;
       arm = arm-from;
       arm-bytes = samples .arm .bytes;
       arm-p10 = ap (λ (p : Panel). answerTo p (look 0 1700)) arm-panel;
@@ -135,7 +163,7 @@ examples =
       arm-late = ap (λ (p : Panel). linkOf true p 1199 .number) arm-panel;
       arm-counted =
           ap (λ (s : List ℕ). messageOf linkedPanel 1200 s .number) (sym (samples .arm .bytes))
-          ∙ ap (λ (r : CallResult). r .number) (sym (message-accepted linkedPanel 1200 (encode armMessage) (message-fault armMessage arm-from)));
+          ∙ ap (λ (r : CallResult). r .number) (sym (message-accepted linkedPanel 1200 (encode armMessage) (message-fault armMessage arm-from linkedPanel 1200 linked-counts)));
       arm-green = arm-look 0 1700 (look-answer.Green 500) armValue refl;
       arm-grey = arm-look 0 1701 (look-answer.Grey 501) armValue refl;
       arm-early = arm-look 0 1199 (look-answer.Refused 15) zeroValue refl;
