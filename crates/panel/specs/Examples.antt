@@ -74,7 +74,8 @@ pub record Examples : Type 0 where
   -- a shorter hold time; a link call that is refused; a second message, whose value and age are shown
   pub short-hold-time : (m : Message) → FromArm m → looked (armCallsWith 499 m) 1700 ≡ grey 500 (valueFor m)
   pub refused-link : (m : Message) → FromArm m → looked (armCalls m ++ (linkUp 1199 ∷ [])) 1700 ≡ green 500 (valueFor m)
-  pub second-message : (m n : Message) → FromArm m → FromArm n → looked (armCalls m ++ (message 1300 (encode n) ∷ [])) 1700 ≡ green 400 (valueFor n)
+  pub second-message : (m n : Message) → FromArm m → FromArm n
+      → looked (armCalls m ++ (message 1300 (encode n) ∷ [])) 1700 ≡ green 400 (valueFor n)
   -- two tiles of one name: the message counts for the one of its type
   pub other-tile : (m : Message) → FromArm m → answerTo (panelAfter (twoTiles m)) (look 0 1700) ≡ empty
   pub own-tile : (m : Message) → FromArm m → answerTo (panelAfter (twoTiles m)) (look 1 1700) ≡ green 500 (valueFor m)
