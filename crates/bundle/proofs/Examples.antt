@@ -23,6 +23,7 @@ examples =
       counts = refl;
       types = refl;
       sizes = refl;
+      wrapping-size = refl;
       tables = refl;
       even-tables = refl;
       other-data = refl;
