@@ -27,6 +27,8 @@ examples =
       type-lengths = refl;
       bytes = refl;
       table-lengths = refl;
+      many-children = refl;
+      first-fault = refl;
       children-faults = refl;
       lists-first = refl;
     }

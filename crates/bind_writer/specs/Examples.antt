@@ -45,6 +45,12 @@ pub record Examples : Type 0 where
       ≡ replicate 4 (Refused 10)
   -- a name and its 0 take 65,534 bytes, and 65,535, which makes a table of 65,536
   pub table-lengths : oneWritten [] (replicate 65533 65) ∷ oneWritten [] (replicate 65534 65) ∷ [] ≡ Wrote 65560 ∷ Refused 10 ∷ []
+  -- 256 children, without types, names and contents
+  pub many-children : bindWritten (replicate 256 []) (replicate 256 []) (replicate 256 []) 5380 ≡ Wrote 5380
+  -- of two faulty children the first one's number
+  pub first-fault : map (λ ds. bindWritten (bindText ∷ bindText ∷ []) ([] ∷ [] ∷ []) ds 0)
+      (([] ∷ within (within (within noChildren)) ∷ []) ∷ (within (within (within noChildren)) ∷ [] ∷ []) ∷ [])
+      ≡ Refused 10 ∷ Refused 11 ∷ []
   -- the lists, then the children, which are at level 2, then 20
   pub children-faults : map bindNoRoom ([] ∷ within (within (within noChildren)) ∷ within (within noChildren) ∷ [])
       ≡ Refused 10 ∷ Refused 11 ∷ Refused 20 ∷ []

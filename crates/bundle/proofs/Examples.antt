@@ -27,5 +27,6 @@ examples =
       tables = refl;
       even-tables = refl;
       other-data = refl;
+      many-children = refl;
       no-children = refl;
     }

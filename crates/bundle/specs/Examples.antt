@@ -81,6 +81,8 @@ pub record Examples : Type 0 where
       ∷ (0x61 ∷ 0x62 ∷ 0x63 ∷ 0 ∷ 0x71 ∷ 0 ∷ 0 ∷ [])
       ∷ [])
       ≡ replicate 6 10
+  -- 256 children, without types, names and data
+  pub many-children : layoutFault (1 ∷ 0 ∷ (replicate 5120 0 ++ (1 ∷ 0 ∷ replicate 256 0))) ≡ 0
   -- without children: whole, cut off, with a byte left over, with a table; no bytes at all
   pub no-children : map layoutFault
       ((0 ∷ 0 ∷ 0 ∷ 0 ∷ []) ∷ (0 ∷ 0 ∷ 0 ∷ []) ∷ (0 ∷ 0 ∷ 0 ∷ 0 ∷ 0 ∷ []) ∷ (0 ∷ 0 ∷ 0 ∷ 2 ∷ 0 ∷ 0 ∷ []) ∷ [] ∷ [])

@@ -111,7 +111,7 @@ pub record Examples : Type 0 where
   pub no-types : map ofType (0 ∷ 1 ∷ 8 ∷ 9 ∷ 12 ∷ 255 ∷ []) ≡ replicate 6 (replicate 5 9)
   -- any V; E and O from 0 to 3; T, DRI, DRJ or DRK 0, so that no pixels are needed
   pub border : imageFault bordered ≡ 0
-  pub any-version : changed 0 (0xFF ∷ 0xFF ∷ []) ≡ 0
+  pub any-version : changed 0 (0xFF ∷ 0xFF ∷ []) ∷ changed 0 (0 ∷ 0 ∷ []) ∷ [] ≡ 0 ∷ 0 ∷ []
   pub endians : map (λ e. changed 4 (e ∷ [])) (0 ∷ 1 ∷ 2 ∷ 3 ∷ []) ≡ 9 ∷ 0 ∷ 0 ∷ 9 ∷ []
   pub coordinates : map (λ o. changed 5 (o ∷ [])) (0 ∷ 1 ∷ 2 ∷ 3 ∷ []) ≡ 9 ∷ 0 ∷ 0 ∷ 9 ∷ []
   pub no-components : emptied 2 (0 ∷ []) ≡ 9

@@ -128,9 +128,13 @@ samples =
             written = refl;
             out = refl;
           };
+      zeros = refl;
       nothing = refl;
       front = refl;
       version-crc = refl;
+      crc-left-out = refl;
+      reserved-bytes = refl;
+      wide-sizes = refl;
       extended = refl;
       sections = refl;
       levels = ap₂ {C = List ℕ} (λ a b. a ∷ b ∷ []) (content.examples .level-4) (content.examples .level-5);
@@ -141,5 +145,7 @@ samples =
       largest-extended = λ c e. rw (append-nil c, e) refl;
       too-large = λ c e. (rw e refl, rw e refl);
       too-large-extended = λ c e. rw (append-nil c, e) refl;
+      parts-counted = λ c e. (rw (append-nil c, e) refl, rw (append-nil c, e) refl);
+      parts-not-counted = λ c e. (rw (e, fits) refl, rw (e, fits) refl, refl);
       room = refl;
     }

@@ -91,6 +91,28 @@ armAnswer =
       «metadata_len» = 0;
     }
 
+-- another one: time stamp 0, and all words 0, so that the CRC is 0
+abbrev pub zeroBytes : List ℕ
+zeroBytes = take 34 armBytes ++ (replicate 15 0 ++ (48 ∷ replicate 56 0))
+
+abbrev pub zeroAnswer : Answer
+zeroAnswer =
+    record {
+      number = 0;
+      step = 106;
+      version = 1;
+      «type_len» = 9;
+      «name_len» = 3;
+      «time_stamp» = 0;
+      id = 0;
+      «further_at» = 58;
+      «further_len» = 0;
+      «content_at» = 58;
+      «content_len» = 48;
+      «metadata_at» = 106;
+      «metadata_len» = 0;
+    }
+
 -- ---- V 2: a STATUS from the device "Probe", with two further bytes, three bytes of content, and metadata with the key "K"
 
 abbrev pub statusText : List ℕ
@@ -256,6 +278,7 @@ pub record Samples : Type 0 where
       transformText (65 ∷ 114 ∷ 109 ∷ []) [] armContent []
   pub probe : Sample probeMessage probeBytes probeAnswer (record { version = 2; «time_stamp» = 0x1112131415161718; id = 0x21222324 })
       statusText probeText (0x31 ∷ 0x32 ∷ []) (0x41 ∷ 0x42 ∷ 0x43 ∷ []) probeMetadata
+  pub zeros : readOf zeroBytes ≡ zeroAnswer
   -- ---- the reader, rule 5.2
   -- no bytes: all but the number is 0
   pub nothing : readOf [] ≡ noAnswer
@@ -277,6 +300,13 @@ pub record Samples : Type 0 where
       ∷ streamOf 2 [] 1 (0 ∷ [])
       ∷ [])
       ≡ refused 4 59 ∷ refused 4 59 ∷ refused 4 59 ∷ refused 5 59 ∷ []
+  -- the CRC of 01 is not 0
+  pub crc-left-out : readOf (streamOf 1 [] 0 (1 ∷ [])) ≡ refused 5 59
+  -- 6: each byte of the reserved word; sizes of 65,535 and 13, which are 12 in 16 bits
+  pub reserved-bytes : map (λ w. readOf (soundOf 2 transformText (0 ∷ 12 ∷ 0 ∷ 0 ∷ (replicate 4 0 ++ w))))
+      ((1 ∷ 0 ∷ 0 ∷ 0 ∷ []) ∷ (0 ∷ 1 ∷ 0 ∷ 0 ∷ []) ∷ (0 ∷ 0 ∷ 1 ∷ 0 ∷ []) ∷ [])
+      ≡ replicate 3 (refused 6 70)
+  pub wide-sizes : readOf (soundOf 2 transformText (0xFF ∷ 0xFF ∷ 0 ∷ 13 ∷ replicate 8 0)) ≡ refused 6 70
   -- 6: a body of 11; EXT_HEADER_SIZE 11; the reserved word; sizes of 13 and 0, 12 and 1 in a body of 12. 6 before 7: metadata of one byte
   pub extended : answersTo
       (soundOf 2 transformText (replicate 11 0)
@@ -324,5 +354,9 @@ pub record Samples : Type 0 where
   pub largest-extended : (c : List ℕ) → length c ≡ 16777204 → writesContent 2 c 16777274 ≡ Wrote 16777274
   pub too-large : (c : List ℕ) → length c ≡ 16777217 → (writesContent 1 c 0 ≡ Refused 3) × (writesContent 3 c 0 ≡ Refused 3)
   pub too-large-extended : (c : List ℕ) → length c ≡ 16777205 → writesContent 2 c 0 ≡ Refused 3
+  -- in V 2 further bytes and metadata are of the body, in any other V they are not
+  pub parts-counted : (c : List ℕ) → length c ≡ 16777205 → (writes 2 0 c [] 0 ≡ Refused 3) × (writes 2 0 [] c 0 ≡ Refused 3)
+  pub parts-not-counted : (c : List ℕ) → length c ≡ 16777217
+      → (writes 1 0 c [] 0 ≡ Refused 6) × (writes 1 0 [] c 0 ≡ Refused 6) × (writes 3 0 c c 0 ≡ Refused 4)
   -- 20: one byte of room short
   pub room : writesContent 1 (7 ∷ []) 58 ∷ writesContent 1 (7 ∷ []) 59 ∷ [] ≡ Refused 20 ∷ Wrote 59 ∷ []

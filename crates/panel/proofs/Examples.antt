@@ -5,11 +5,13 @@ use mathlib.Core.Logic.{inl}
 use mathlib.Core.Bool.{Bool, true, cond}
 use mathlib.Core.List.{List, [], _∷_, map}
 use native.Mathlib.Omega.{arith}
+use lib.Dec.{eqb}
 use lib.ListN.{length}
 use Rattle.fields.specs.Bytes.{same, sized}
 use Rattle.fields.specs.Lists.{all, any, flat}
 use Rattle.fields.specs.Numbers.{beBytes}
 use Rattle.fields.specs.Text.{isText}
+use Rattle.fields.specs.Checks.{orElse}
 use Rattle.pose.specs.Words.{wordBytes}
 use Rattle.content.specs.Kinds.{transformText, positionText}
 use Rattle.content.specs.Tree as tree
@@ -18,7 +20,8 @@ use Rattle.content.specs.Check.{deepest}
 use Rattle.message.specs.Message.{Message, encode}
 use Rattle.message.specs.Check.{readOf}
 use Rattle.message.specs.Demand2.{Begins}
-use Rattle.message.specs.Samples.{armMessage, armContent}
+use Rattle.message.specs.declared.Answer.{Answer as Read}
+use Rattle.message.specs.Samples.{armMessage, armBytes, armAnswer, armContent, zeroBytes, zeroAnswer}
 use Rattle.message.proofs.Samples.{samples}
 use Rattle.message.proofs.Laws.Messages.{demand-2}
 use Rattle.history.specs.Calls.{add, linkUp, linkDown, message, look, Answer, refused, empty, green, grey}
@@ -32,9 +35,9 @@ use Rattle.panel.specs.declared.LookAnswer.the-variants as look-answer
 use Rattle.panel.specs.declared.Panel.{Panel}
 use Rattle.panel.specs.declared.CallResult.{CallResult}
 use Rattle.panel.specs.Tiles.{valueOf, labelOf, countedFor, isTile}
-use Rattle.panel.specs.Calls.{labelIn, addFault, addOf, linkOf, readFault, messageFault, messageOf, lookFault, lookOf}
+use Rattle.panel.specs.Calls.{labelIn, addFault, addOf, linkOf, readFault, messageFault, received, refusedCall, messageOf, lookFault, lookOf}
 use Rattle.panel.specs.Demand3.{answerTo, panelNext, panelAfter}
-use Rattle.panel.specs.Examples.{armText, FromArm, armCalls, armBytesCalls, ArmLook, armValue, zeroValue, Examples}
+use Rattle.panel.specs.Examples.{armText, FromArm, armCalls, armBytesCalls, threeTiles, oneCounted, twoCounted, ArmLook, armValue, zeroValue, Examples}
 use Rattle.panel.proofs.Laws.Calls.{message-accepted, read-whole}
 use Rattle.history.proofs.Laws.Readings.{begins-one, one-step}
 use Rattle.panel.proofs.Laws.Contents.{bytesOf, pose-short, value-bytes}
@@ -125,8 +128,44 @@ arm-look : (i now : ℕ) (a : LookAnswer) (v : Value)
     → ArmLook i now a v
 arm-look i now a v = subst (λ (p : Panel). lookOf p i now ≡ record { panel = p; answer = a; value = v }) (sym arm-panel)
 
+-- what a message call gives back where the reader answers a to its bytes
+abbrev messageRead : Panel → ℕ → List ℕ → Read → CallResult
+messageRead p t s a =
+    cond (eqb (orElse (clockFault (p .link .clock) t) (orElse (cond (p .link .up) 0 14) (readFault (p .tiles) s a))) 0)
+    (record { panel = received p t s a; number = 0 })
+    (refusedCall p (orElse (clockFault (p .link .clock) t) (orElse (cond (p .link .up) 0 14) (readFault (p .tiles) s a))))
+
+arm-sent : (p : Panel) (t : ℕ) → messageOf p t armBytes ≡ messageRead p t armBytes armAnswer
+unfolding messageOf messageFault
+arm-sent p t = ap (messageRead p t armBytes) (samples .arm .read)
+
+zero-sent : (p : Panel) (t : ℕ) → messageOf p t zeroBytes ≡ messageRead p t zeroBytes zeroAnswer
+unfolding messageOf messageFault
+zero-sent p t = ap (messageRead p t zeroBytes) (samples .zeros)
+
+-- the panels after one message and after two
+one-panel : panelAfter oneCounted ≡ messageRead (panelAfter threeTiles) 1200 armBytes armAnswer .panel
+unfolding panelAfter
+one-panel = ap (λ (r : CallResult). r .panel) (arm-sent (panelAfter threeTiles) 1200)
+
+abbrev onePanel : Panel
+onePanel = messageRead (panelAfter threeTiles) 1200 armBytes armAnswer .panel
+
+two-panel : panelAfter twoCounted ≡ messageRead onePanel 1300 zeroBytes zeroAnswer .panel
+unfolding panelAfter
+two-panel =
+    ap (λ (p : Panel). messageOf p 1300 zeroBytes .panel) one-panel
+    ∙ ap (λ (r : CallResult). r .panel) (zero-sent onePanel 1300)
+
+abbrev twoPanel : Panel
+twoPanel = messageRead onePanel 1300 zeroBytes zeroAnswer .panel
+
+-- what looks at tiles answer on a panel
+abbrev onPanel : List ℕ → ℕ → Panel → List Answer
+onPanel tiles now p = map (λ i. answerTo p (look i now)) tiles
+
 pub examples : Examples
-unfolding panelAfter addOf addFault linkOf allowedFault isAllowed clockFault lookOf lookFault same sized any isText all
+unfolding panelAfter addOf addFault linkOf readFault allowedFault isAllowed clockFault lookOf lookFault same sized any isText all
 examples =
     record {
       p10 = λ m f. shown m f linkedPanel 1200 linked-counts (λ p. p) 0 1700 (green 500) refl;
@@ -157,6 +196,18 @@ examples =
           subst (Shown R armBytesCalls 0 1700) (ap (λ (p : Panel). answerTo p (look 0 1700)) arm-panel)
           (demand-3 .claim R armBytesCalls (tt, (tt, (books .calls .1 .1 .0, tt))) .after 0 1700 .acceptance
           (ap (λ (b : Summary). numberOn R b (look 0 1700)) (books .on-books R .arm)));
+      counted-for = ap (onPanel (0 ∷ 1 ∷ 2 ∷ 3 ∷ []) 1700) one-panel;
+      counted-older = ap (onPanel (0 ∷ 1 ∷ 2 ∷ []) 1701) one-panel;
+      counted-long-ago = ap (λ (p : Panel). onPanel (1 ∷ []) 4294968497 p ∷ onPanel (1 ∷ []) 0xFFFFFFFFFFFFFFFF p ∷ []) one-panel;
+      second-counted = ap (onPanel (0 ∷ 1 ∷ 2 ∷ []) 1400) two-panel;
+      second-clock = ap (onPanel (0 ∷ 1 ∷ []) 1299) two-panel;
+      green-again =
+          ap (λ (p : Panel). onPanel (1 ∷ []) 1500 (messageOf (panelNext p (linkUp 1400)) 1500 armBytes .panel)) two-panel
+          ∙ ap (λ (r : CallResult). onPanel (1 ∷ []) 1500 (r .panel)) (arm-sent (panelNext twoPanel (linkUp 1400)) 1500);
+      green-kept = ap (λ (p : Panel). onPanel (1 ∷ 3 ∷ []) 1400 (panelNext (panelNext p (add positionText (65 ∷ []) 1)) (linkDown 1299))) two-panel;
+      at-zero =
+          ap (λ (r : CallResult). onPanel (0 ∷ []) 0 (r .panel))
+          (arm-sent (panelAfter (add transformText armText 500 ∷ linkUp 0 ∷ [])) 0);
       arm-added = refl;
       arm-twice = ap (λ (p : Panel). addOf p transformText armText 500 .answer) arm-panel;
       arm-second = ap (λ (p : Panel). addOf p positionText armText 500 .answer) arm-panel;

@@ -3,12 +3,12 @@
 use Prim.Native.Nat.{ℕ}
 use mathlib.Core.Path.{_≡_}
 use mathlib.Core.Bool.{true}
-use mathlib.Core.List.{List, [], _∷_, _++_}
+use mathlib.Core.List.{List, [], _∷_, _++_, map}
 use lib.ListN.{replicate}
 use Rattle.content.specs.Kinds.{transformText, positionText}
 use Rattle.content.specs.Tree.{typeText}
 use Rattle.message.specs.Message.{Message, WellFormed, encode}
-use Rattle.message.specs.Samples.{armMessage, armBytes, armContent}
+use Rattle.message.specs.Samples.{armMessage, armBytes, armContent, zeroBytes}
 use Rattle.history.specs.Calls.{Call, add, linkUp, linkDown, message, look, Answer, refused, accepted, added, empty, green, grey}
 use Rattle.history.specs.Reading.{Reader}
 use Rattle.history.specs.History.{valueFor, Shown}
@@ -53,6 +53,26 @@ armBytesCalls = add transformText armText 500 ∷ linkUp 1000 ∷ message 1200 a
 abbrev pub ArmLook : ℕ → ℕ → LookAnswer → Value → Type 0
 ArmLook i now a v = lookOf (panelAfter armBytesCalls) i now ≡ record { panel = panelAfter armBytesCalls; answer = a; value = v }
 
+-- three tiles: TRANSFORM "A", TRANSFORM "Arm", POSITION "Arm", of which the second has the hold time 500; link up at 1000
+abbrev pub threeTiles : List Call
+threeTiles =
+    add transformText (65 ∷ []) 60000
+    ∷ add transformText armText 500
+    ∷ add positionText armText 60000
+    ∷ linkUp 1000
+    ∷ []
+
+-- a message from Arm, and another with all words 0
+abbrev pub oneCounted : List Call
+oneCounted = threeTiles ++ (message 1200 armBytes ∷ [])
+
+abbrev pub twoCounted : List Call
+twoCounted = oneCounted ++ (message 1300 zeroBytes ∷ [])
+
+-- what looks at these tiles answer
+abbrev pub lookedAll : List Call → List ℕ → ℕ → List Answer
+lookedAll cs tiles now = map (λ i. answerTo (panelAfter cs) (look i now)) tiles
+
 -- the values: the message's content; none; 01 02 03
 abbrev pub armValue : Value
 armValue = record { bytes = armContent; len = 48 }
@@ -88,6 +108,21 @@ pub record Examples : Type 0 where
   pub arm-p12 : looked (armBytesCalls ++ (linkUp 1400 ∷ [])) 1400 ≡ grey 200 armContent
   -- and the words of demand 3
   pub arm-shown : (R : Reader) → Shown R armBytesCalls 0 1700 (green 500 armContent)
+  -- of three tiles: a message counts for the one of its type and name, by whose hold time it is judged
+  pub counted-for : lookedAll oneCounted (0 ∷ 1 ∷ 2 ∷ 3 ∷ []) 1700 ≡ empty ∷ green 500 armContent ∷ empty ∷ refused 19 ∷ []
+  pub counted-older : lookedAll oneCounted (0 ∷ 1 ∷ 2 ∷ []) 1701 ≡ empty ∷ grey 501 armContent ∷ empty ∷ []
+  -- the age is not cut off: 2^32 ms and one; the latest clock
+  pub counted-long-ago : lookedAll oneCounted (1 ∷ []) 4294968497 ∷ lookedAll oneCounted (1 ∷ []) 0xFFFFFFFFFFFFFFFF ∷ []
+      ≡ (grey 4294967297 armContent ∷ []) ∷ (grey 0xFFFFFFFFFFFFFB4F armContent ∷ []) ∷ []
+  -- the second message: its value and its age; the clock is that of the call
+  pub second-counted : lookedAll twoCounted (0 ∷ 1 ∷ 2 ∷ []) 1400 ≡ empty ∷ green 100 (replicate 48 0) ∷ empty ∷ []
+  pub second-clock : lookedAll twoCounted (0 ∷ 1 ∷ []) 1299 ≡ refused 15 ∷ refused 15 ∷ []
+  -- a new link and a message on it; a fourth tile and a refused link call change no colour
+  pub green-again : lookedAll (twoCounted ++ (linkUp 1400 ∷ message 1500 armBytes ∷ [])) (1 ∷ []) 1500 ≡ green 0 armContent ∷ []
+  pub green-kept : lookedAll (twoCounted ++ (add positionText (65 ∷ []) 1 ∷ linkDown 1299 ∷ [])) (1 ∷ 3 ∷ []) 1400
+      ≡ green 100 (replicate 48 0) ∷ empty ∷ []
+  -- all at clock 0
+  pub at-zero : lookedAll (add transformText armText 500 ∷ linkUp 0 ∷ message 0 armBytes ∷ []) (0 ∷ []) 0 ≡ green 0 armContent ∷ []
   -- the same in the code's words: three adds; a link call; the message; looks
   pub arm-added : addOf freshPanel transformText armText 500 .answer ≡ add-answer.Added 0
   pub arm-twice : addOf (panelAfter armBytesCalls) transformText armText 500 .answer ≡ add-answer.Refused 17

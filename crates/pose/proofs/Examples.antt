@@ -31,6 +31,7 @@ examples =
       written = refl;
       short = refl;
       long = refl;
+      all-bits = refl;
       no-room = refl;
       position-12 = refl;
       position-24 = refl;

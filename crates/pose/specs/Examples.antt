@@ -35,12 +35,23 @@ anyBits = 0x80 ∷ 0 ∷ 0 ∷ 0 ∷ 0x7F ∷ 0xC0 ∷ 0 ∷ 1 ∷ 0xFF ∷ 0xFF
 pub record Examples : Type 0 where
   -- a transform of which the statements speak
   pub columns : Columns inColumns
-  -- a TRANSFORM: read, written, with one byte less, into one byte less
+  -- a TRANSFORM: read, written, with one byte less, with one more, with all bits set, into one byte less
   pub read : transformOf twelveWords ≡ record { number = 0; transform = inColumns }
   pub wrote : transformWritten 50 ≡ Wrote 48
   pub written : transformOut inColumns (replicate 50 5) ≡ twelveWords ++ (5 ∷ 5 ∷ [])
   pub short : transformOf (take 47 twelveWords) ≡ record { number = 8; transform = zeros }
   pub long : transformOf (twelveWords ++ (0 ∷ [])) ≡ record { number = 8; transform = zeros }
+  pub all-bits : transformOf (replicate 48 255)
+      ≡ record {
+        number = 0;
+        transform =
+            record {
+              column1 = replicate 3 0xFFFFFFFF;
+              column2 = replicate 3 0xFFFFFFFF;
+              column3 = replicate 3 0xFFFFFFFF;
+              translation = replicate 3 0xFFFFFFFF;
+            };
+      }
   pub no-room : transformWritten 47 ≡ Refused 20
   -- a POSITION of 12, 24 and 28 bytes, and of 13
   pub position-12 : positionOf anyBits ≡ record { number = 0; count = 3; words = 0x80000000 ∷ 0x7FC00001 ∷ 0xFFFFFFFF ∷ 0 ∷ 0 ∷ 0 ∷ 0 ∷ [] }
