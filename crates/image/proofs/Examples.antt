@@ -37,6 +37,7 @@ examples =
       no-sizes = refl;
       smaller = refl;
       larger = refl;
+      largest = refl;
       shifted = refl;
       at-front = refl;
       zeros = refl;

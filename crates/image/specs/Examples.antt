@@ -116,10 +116,11 @@ pub record Examples : Type 0 where
   pub coordinates : map (λ o. changed 5 (o ∷ [])) (0 ∷ 1 ∷ 2 ∷ 3 ∷ []) ≡ 9 ∷ 0 ∷ 0 ∷ 9 ∷ []
   pub no-components : emptied 2 (0 ∷ []) ≡ 9
   pub none-sent : map (λ at. emptied at (0 ∷ 0 ∷ [])) (66 ∷ 68 ∷ 70 ∷ []) ≡ 9 ∷ 9 ∷ 9 ∷ []
-  -- RI, RJ or RK 0, one less and one more
+  -- RI, RJ or RK 0, one less, one more, and 65,535
   pub no-sizes : map (λ at. changed at (0 ∷ 0 ∷ [])) (6 ∷ 8 ∷ 10 ∷ []) ≡ 9 ∷ 9 ∷ 9 ∷ []
   pub smaller : changed 6 (0 ∷ 1 ∷ []) ∷ changed 8 (0 ∷ 2 ∷ []) ∷ changed 10 (0 ∷ 3 ∷ []) ∷ [] ≡ 9 ∷ 9 ∷ 9 ∷ []
   pub larger : changed 6 (0 ∷ 3 ∷ []) ∷ changed 8 (0 ∷ 4 ∷ []) ∷ changed 10 (0 ∷ 5 ∷ []) ∷ [] ≡ 0 ∷ 0 ∷ 0 ∷ []
+  pub largest : map (λ at. changed at (0xFF ∷ 0xFF ∷ [])) (6 ∷ 8 ∷ 10 ∷ []) ≡ 0 ∷ 0 ∷ 0 ∷ []
   -- DI, DJ or DK one more, and 0
   pub shifted : map (λ at. changed at (0 ∷ 2 ∷ [])) (60 ∷ 62 ∷ 64 ∷ []) ≡ 9 ∷ 9 ∷ 9 ∷ []
   pub at-front : map (λ at. changed at (0 ∷ 0 ∷ [])) (60 ∷ 62 ∷ 64 ∷ []) ≡ 0 ∷ 0 ∷ 0 ∷ []
