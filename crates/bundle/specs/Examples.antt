@@ -58,8 +58,8 @@ pub record Examples : Type 0 where
   pub counts : map (changed 1) (0 ∷ 1 ∷ 2 ∷ 3 ∷ []) ≡ 10 ∷ 10 ∷ 0 ∷ 10 ∷ []
   pub types : changed 2 128 ∷ changed 13 1 ∷ changed 22 128 ∷ changed 33 1 ∷ [] ≡ replicate 4 10
   pub sizes : changed 21 5 ∷ changed 14 128 ∷ changed 41 3 ∷ changed 34 128 ∷ [] ≡ replicate 4 10
-  -- the last CSIZE is 2^64 - 1: with its pad, 0 in 64 bits
-  pub wrapping-size : layoutFault (sets twoChildren 34 (replicate 8 0xFF)) ≡ 10
+  -- a CSIZE of 2^64 - 1, which is 0 with its pad in 64 bits
+  pub wide-sizes : map (λ at. layoutFault (sets twoChildren at (replicate 8 255))) (14 ∷ 34 ∷ []) ≡ 10 ∷ 10 ∷ []
   -- the table without its pad, with two more zeros, with a pad that is not 0, with a byte 128, with a name less
   pub tables : map tabled
       ((0 ∷ 5 ∷ 0x41 ∷ 0 ∷ 0x42 ∷ 0x43 ∷ 0 ∷ [])
