@@ -24,7 +24,7 @@ use Rattle.message.specs.declared.Answer.{Answer as Read}
 use Rattle.message.specs.Samples.{armMessage, armBytes, armAnswer, armContent, zeroBytes, zeroAnswer}
 use Rattle.message.proofs.Samples.{samples}
 use Rattle.message.proofs.Laws.Messages.{demand-2}
-use Rattle.history.specs.Calls.{add, linkUp, linkDown, message, look, Answer, refused, empty, green, grey}
+use Rattle.history.specs.Calls.{add, linkUp, linkDown, message, look, Answer, refused, green, grey}
 use Rattle.history.specs.Summary.{Summary, isAllowed, allowedFault, clockFault, numberOn}
 use Rattle.history.specs.History.{valueFor, Shown}
 use Rattle.history.proofs.Books.{books}
@@ -51,10 +51,6 @@ arm = labelOf transformText armText
 -- the panel after the first two calls
 abbrev linkedPanel : Panel
 linkedPanel = panelAfter (add transformText armText 500 ∷ linkUp 1000 ∷ [])
-
--- the same with a POSITION tile of that name before it
-abbrev twoPanel : Panel
-twoPanel = panelAfter (add positionText armText 500 ∷ add transformText armText 500 ∷ linkUp 1000 ∷ [])
 
 -- a panel after a message from Arm with this clock and value
 abbrev countedPanel : Panel → ℕ → Value → Panel
@@ -183,8 +179,6 @@ examples =
           ap (λ (p : Panel). answerTo (panelNext p (message 1300 (encode n))) (look 0 1700)) (counted-panel m f linkedPanel 1200 linked-counts)
           ∙ shown n g (countedPanel linkedPanel 1200 (valueOf (valueFor m))) 1300 (record { in-time = refl; is-up = refl; has-arm = refl })
           (λ p. p) 0 1700 (green 400) refl;
-      other-tile = λ m f. shown m f twoPanel 1200 (record { in-time = refl; is-up = refl; has-arm = refl }) (λ p. p) 0 1700 (λ v. empty) refl;
-      own-tile = λ m f. shown m f twoPanel 1200 (record { in-time = refl; is-up = refl; has-arm = refl }) (λ p. p) 1 1700 (green 500) refl;
       arm = arm-from;
       arm-bytes = samples .arm .bytes;
       arm-p10 = ap (λ (p : Panel). answerTo p (look 0 1700)) arm-panel;

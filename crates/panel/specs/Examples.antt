@@ -38,10 +38,6 @@ armCalls m = add transformText armText 500 ∷ linkUp 1000 ∷ message 1200 (enc
 abbrev pub armCallsWith : ℕ → Message → List Call
 armCallsWith h m = add transformText armText h ∷ linkUp 1000 ∷ message 1200 (encode m) ∷ []
 
--- the same with a POSITION tile of that name before it
-abbrev pub twoTiles : Message → List Call
-twoTiles m = add positionText armText 500 ∷ armCalls m
-
 abbrev pub looked : List Call → ℕ → Answer
 looked cs now = answerTo (panelAfter cs) (look 0 now)
 
@@ -96,9 +92,6 @@ pub record Examples : Type 0 where
   pub refused-link : (m : Message) → FromArm m → looked (armCalls m ++ (linkUp 1199 ∷ [])) 1700 ≡ green 500 (valueFor m)
   pub second-message : (m n : Message) → FromArm m → FromArm n
       → looked (armCalls m ++ (message 1300 (encode n) ∷ [])) 1700 ≡ green 400 (valueFor n)
-  -- two tiles of one name: the message counts for the one of its type
-  pub other-tile : (m : Message) → FromArm m → answerTo (panelAfter (twoTiles m)) (look 0 1700) ≡ empty
-  pub own-tile : (m : Message) → FromArm m → answerTo (panelAfter (twoTiles m)) (look 1 1700) ≡ green 500 (valueFor m)
   -- there is such a message, and these are its bytes; P10 to P12 of them
   pub arm : FromArm armMessage
   pub arm-bytes : encode armMessage ≡ armBytes
