@@ -13,6 +13,7 @@ use Rattle.header.specs.Header.{Header, WellTexts, WellHeader, encodeHeader, li
 use Rattle.header.specs.Headers.{BeginsWith, TextsHeld}
 use Rattle.metadata.specs.Metadatas.{IsMetadata}
 use Rattle.content.specs.Check.{contentFault, deepest}
+use Rattle.message.specs.declared.Answer.{Answer}
 use Rattle.message.specs.Body.{Sections, Plain, WellSections, encodeBody}
 use Rattle.message.specs.Message.{Parts, bodyOf, encodeParts}
 use Rattle.message.specs.Check.{refused, readOf, handed}
@@ -40,6 +41,25 @@ pub record LaidOut (h : Header) (b : List ℕ) (x : Sections) : Type 0 where
   pub well : WellSections (h .version) x
   pub body : encodeBody (h .version) x ≡ b
 
+-- the number and the step of an answer, and nothing else
+abbrev pub numberAndStep : Answer → Answer
+numberAndStep a =
+    record {
+      number = a .number;
+      step = a .step;
+      version = 0;
+      «type_len» = 0;
+      «name_len» = 0;
+      «time_stamp» = 0;
+      id = 0;
+      «further_at» = 0;
+      «further_len» = 0;
+      «content_at» = 0;
+      «content_len» = 0;
+      «metadata_at» = 0;
+      «metadata_len» = 0;
+    }
+
 pub record Refusals : Type 0 where
   pub short : (s : List ℕ) → length s < 58 → readOf s ≡ refused 1 0
   pub no-text : (s : List ℕ) → 58 ≤ length s → (TextsHeld s → ⊥) → readOf s ≡ refused 2 0
@@ -57,6 +77,8 @@ pub record Refusals : Type 0 where
   pub content : (s : List ℕ) (h : Header) (b : List ℕ) (x : Sections) → Whole s h b → LaidOut h b x → IsMetadata (x .metadata)
       → (contentFault deepest (h .typeText) (x .content) ≡ 0 → ⊥)
       → readOf s ≡ refused (contentFault deepest (h .typeText) (x .content)) (58 + h .bodySize)
+  -- a refusal hands out nothing besides its number and its step
+  pub nothing-handed : (s : List ℕ) → (readOf s .number ≡ 0 → ⊥) → readOf s ≡ numberAndStep (readOf s)
 
 -- ---- the writer
 

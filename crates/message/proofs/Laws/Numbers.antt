@@ -30,13 +30,13 @@ use Rattle.message.specs.Message.{Parts, bodyOf, headerFor, encodeParts}
 use Rattle.message.specs.Check.{refused, versionFault, bodyFault, sectionsFault, placesOf, sectionsOf, bodyChecks, bodyAt, frontFault, numberOf, readOf}
 use Rattle.message.specs.Writer.{fitOk, sectionsChecks, writeChecks, writeFault, messageWritten, messageOut}
 use Rattle.message.specs.Bodies.{IsVersion, BreaksExtended}
-use Rattle.message.specs.Numbers.{Whole, Sound, LaidOut, Refusals, Given, Unfit, ReadBack, WriterNumbers}
+use Rattle.message.specs.Numbers.{Whole, Sound, LaidOut, numberAndStep, Refusals, Given, Unfit, ReadBack, WriterNumbers}
 use Rattle.header.proofs.Laws.Layout.{header-read, header-number}
 use Rattle.header.proofs.Laws.Faults.{names-pass, names-passed, names-broken, limit-pass, header-read-number}
 use Rattle.header.proofs.Laws.Headers.{headers}
 use Rattle.metadata.proofs.Laws.Metadatas.{metadatas}
 use Rattle.message.proofs.Laws.Body.{body-well, body-read, extended-refused}
-use Rattle.message.proofs.Laws.Stream.{is-some, whole-refused, version-pass, version-passed, version-refused, checks-version, checks-crc, checks-body, checks-rest, whole-header, whole-body, whole-front, read-number, partsAt, handed-parts, number-read}
+use Rattle.message.proofs.Laws.Stream.{is-some, whole-refused, version-pass, version-passed, version-refused, checks-version, checks-crc, checks-body, checks-rest, whole-header, whole-body, whole-front, read-refused, read-number, partsAt, handed-parts, number-read}
 use Rattle.message.proofs.Laws.Read.{front-refused, header-refused, body-refused}
 use Rattle.message.proofs.Laws.Writer.{plain-pass, plain-passed, sizes-passed, fit-passed, well-fit, sections-version, sections-unfit, sections-rest, write-names, write-texts, write-limit, write-rest, parts-number, checks-sections, writable, parts-read}
 
@@ -125,6 +125,7 @@ refusals =
       extended = says-extended;
       metadata = λ s h b x w l k. says-metadata s h b w x l k;
       content = λ s h b x w l m k. says-content s h b w x l m k;
+      nothing-handed = λ s h. let e = read-refused s (λ z. h (read-number s ∙ z)) in e ∙ sym (ap numberAndStep e);
     }
 
 -- ---- the writer
