@@ -1,6 +1,6 @@
 -- Whole messages byte by byte, with what the reader answers to them and what the writer makes of their parts; and short inputs, one for
 -- each number of the reader and the writer. They fix the order of the fields, the limits and the order of the checks.
-use Prim.Native.Nat.{ℕ, _-_}
+use Prim.Native.Nat.{ℕ, _+_, _-_}
 use mathlib.Core.Path.{_≡_}
 use mathlib.Core.Bool.{true, false}
 use mathlib.Core.List.{List, [], _∷_, _++_, map}
@@ -73,45 +73,34 @@ armBytes =
     ∷ armContent
     ∷ [])
 
-abbrev pub armAnswer : Answer
-armAnswer =
+-- the answer to a message of V 1: the lengths of its texts, its time stamp and the length of its content
+abbrev pub answerOf1 : ℕ → ℕ → ℕ → ℕ → Answer
+answerOf1 typeLength nameLength stamp size =
     record {
       number = 0;
-      step = 106;
+      step = 58 + size;
       version = 1;
-      «type_len» = 9;
-      «name_len» = 3;
-      «time_stamp» = 0x0102030405060708;
+      «type_len» = typeLength;
+      «name_len» = nameLength;
+      «time_stamp» = stamp;
       id = 0;
       «further_at» = 58;
       «further_len» = 0;
       «content_at» = 58;
-      «content_len» = 48;
-      «metadata_at» = 106;
+      «content_len» = size;
+      «metadata_at» = 58 + size;
       «metadata_len» = 0;
     }
+
+abbrev pub armAnswer : Answer
+armAnswer = answerOf1 9 3 0x0102030405060708 48
 
 -- another one: time stamp 0, and all words 0, so that the CRC is 0
 abbrev pub zeroBytes : List ℕ
 zeroBytes = take 34 armBytes ++ (replicate 15 0 ++ (48 ∷ replicate 56 0))
 
 abbrev pub zeroAnswer : Answer
-zeroAnswer =
-    record {
-      number = 0;
-      step = 106;
-      version = 1;
-      «type_len» = 9;
-      «name_len» = 3;
-      «time_stamp» = 0;
-      id = 0;
-      «further_at» = 58;
-      «further_len» = 0;
-      «content_at» = 58;
-      «content_len» = 48;
-      «metadata_at» = 106;
-      «metadata_len» = 0;
-    }
+zeroAnswer = answerOf1 9 3 0 48
 
 -- ---- V 2: a STATUS from the device "Probe", with two further bytes, three bytes of content, and metadata with the key "K"
 
@@ -254,25 +243,6 @@ noAnswer =
       «metadata_len» = 0;
     }
 
--- what is accepted of `headOf [] 0`: V 1, no texts, no body
-abbrev pub emptyAnswer : Answer
-emptyAnswer =
-    record {
-      number = 0;
-      step = 58;
-      version = 1;
-      «type_len» = 0;
-      «name_len» = 0;
-      «time_stamp» = 0;
-      id = 0;
-      «further_at» = 58;
-      «further_len» = 0;
-      «content_at» = 58;
-      «content_len» = 0;
-      «metadata_at» = 58;
-      «metadata_len» = 0;
-    }
-
 pub record Samples : Type 0 where
   pub arm : Sample armMessage armBytes armAnswer (record { version = 1; «time_stamp» = 0x0102030405060708; id = 0 })
       transformText (65 ∷ 114 ∷ 109 ∷ []) [] armContent []
@@ -291,7 +261,7 @@ pub record Samples : Type 0 where
       ∷ headOf [] 1
       ∷ headOf [] 0
       ∷ [])
-      ≡ refused 1 0 ∷ refused 2 0 ∷ refused 3 0 ∷ refused 1 0 ∷ refused 1 0 ∷ emptyAnswer ∷ []
+      ≡ refused 1 0 ∷ refused 2 0 ∷ refused 3 0 ∷ refused 1 0 ∷ refused 1 0 ∷ answerOf1 0 0 0 0 ∷ []
   -- 4 before 5: V 0, 3 and 256 with another CRC; 5 before 6: in V 2 a body of one byte with another CRC
   pub version-crc : answersTo
       (streamOf 0 [] 1 (0 ∷ [])

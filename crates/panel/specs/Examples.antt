@@ -9,6 +9,7 @@ use Rattle.content.specs.Kinds.{transformText, positionText}
 use Rattle.content.specs.Tree.{typeText}
 use Rattle.message.specs.Message.{Message, WellFormed, encode}
 use Rattle.message.specs.Samples.{armMessage, armBytes, armContent, zeroBytes}
+use Rattle.history.specs.Books as books
 use Rattle.history.specs.Calls.{Call, add, linkUp, linkDown, message, look, Answer, refused, accepted, added, empty, green, grey}
 use Rattle.history.specs.Reading.{Reader}
 use Rattle.history.specs.History.{valueFor, Shown}
@@ -30,20 +31,20 @@ pub record FromArm (m : Message) : Type 0 where
   pub is-transform : typeText (m .content) ≡ transformText
   pub is-arm : m .deviceName ≡ armText
 
--- the calls of P10 before its look
-abbrev pub armCalls : Message → List Call
-armCalls m = add transformText armText 500 ∷ linkUp 1000 ∷ message 1200 (encode m) ∷ []
-
--- the same with another hold time
+-- a tile for Arm with this hold time, link up at 1000, and the message at 1200
 abbrev pub armCallsWith : ℕ → Message → List Call
 armCallsWith h m = add transformText armText h ∷ linkUp 1000 ∷ message 1200 (encode m) ∷ []
+
+-- the calls of P10 before its look
+abbrev pub armCalls : Message → List Call
+armCalls m = armCallsWith 500 m
 
 abbrev pub looked : List Call → ℕ → Answer
 looked cs now = answerTo (panelAfter cs) (look 0 now)
 
 -- the same calls with the bytes of a message from Arm
 abbrev pub armBytesCalls : List Call
-armBytesCalls = add transformText armText 500 ∷ linkUp 1000 ∷ message 1200 armBytes ∷ []
+armBytesCalls = books.armCalls
 
 -- a look at tile i after them gives this answer and value, and the panel as it was
 abbrev pub ArmLook : ℕ → ℕ → LookAnswer → Value → Type 0
