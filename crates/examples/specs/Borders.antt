@@ -17,9 +17,9 @@ use Rattle.message.specs.Check.{readOf, contentIn}
 use Rattle.message.specs.Check as message
 use Rattle.message.specs.Samples.{armMessage, armContent}
 use Rattle.message.specs.Examples.{ofVersion2, getStatusText, body12}
-use Rattle.history.specs.Calls.{Call, linkUp, look, refused, green, grey}
+use Rattle.history.specs.Calls.{Call, linkUp, look, green, grey, refused, shown}
 use Rattle.history.specs.History.{valueFor}
-use Rattle.panel.specs.Examples.{FromArm, armCalls, armBytesCalls, looked}
+use Rattle.panel.specs.Examples.{FromArm, armTile, armCalls, armBytesCalls, looked}
 
 -- ---- the inputs
 
@@ -92,14 +92,14 @@ pub record Borders : Type 0 where
   pub p9-inside : imageFault (imageOfBorder 3 1 2) ≡ 0
   pub p9-outside : imageFault (imageOfBorder 2 1 2) ≡ 9
   -- a tile for Arm with a hold time of 500, and any TRANSFORM message from Arm: looks at the ages 500 and 501, and one before the message
-  pub p10 : (m : Message) → FromArm m → looked (armCalls m) 1700 ≡ green 500 (valueFor m)
-  pub p11 : (m : Message) → FromArm m → looked (armCalls m) 1701 ≡ grey 501 (valueFor m)
+  pub p10 : (m : Message) → FromArm m → looked (armCalls m) 1700 ≡ shown green 500 (valueFor m (armTile 500))
+  pub p11 : (m : Message) → FromArm m → looked (armCalls m) 1701 ≡ shown grey 501 (valueFor m (armTile 500))
   pub p11-earlier : (m : Message) → FromArm m → looked (armCalls m) 1199 ≡ refused 15
   -- after a new link
-  pub p12 : (m : Message) → FromArm m → looked (callsOfP12 m) 1400 ≡ grey 200 (valueFor m)
+  pub p12 : (m : Message) → FromArm m → looked (callsOfP12 m) 1400 ≡ shown grey 200 (valueFor m (armTile 500))
   -- there is a TRANSFORM from Arm; the same of its bytes
   pub arm : FromArm armMessage
-  pub p10-bytes : looked armBytesCalls 1700 ≡ green 500 armContent
-  pub p11-bytes : looked armBytesCalls 1701 ≡ grey 501 armContent
+  pub p10-bytes : looked armBytesCalls 1700 ≡ shown green 500 armContent
+  pub p11-bytes : looked armBytesCalls 1701 ≡ shown grey 501 armContent
   pub p11-earlier-bytes : looked armBytesCalls 1199 ≡ refused 15
-  pub p12-bytes : looked (armBytesCalls ++ looksAndLink) 1400 ≡ grey 200 armContent
+  pub p12-bytes : looked (armBytesCalls ++ looksAndLink) 1400 ≡ shown grey 200 armContent

@@ -6,8 +6,11 @@ use native.Mathlib.Omega.{arith}
 use native.Mathlib.Nat.{suc-ne-zero}
 use lib.ListN.{take}
 use Rattle.fields.specs.Bytes.{Bytes, same}
-use Rattle.fields.specs.Lists.{all, any}
+use Rattle.fields.specs.Lists.{all, any, flat}
+use Rattle.fields.specs.Numbers.{beBytes}
 use Rattle.fields.specs.Text.{isText}
+use Rattle.pose.specs.Words.{wordBytes}
+use Rattle.content.specs.Tree as tree
 use Rattle.message.specs.Message.{Message, WellFormed, encode}
 use Rattle.message.specs.Samples.{armMessage, armBytes, probeMessage, probeBytes}
 use Rattle.message.specs.declared.Answer.{Answer}
@@ -70,8 +73,18 @@ module _ (R : Reader) where
         refused = rw (r .damaged, r .more) refl;
         arm = rw (r .arm) refl;
         after = rw (r .arm) refl;
+        gaps = rw (r .arm) refl;
+        gap-filled = refl;
+        full = refl;
       }
 
 pub books : Books
-unfolding all
-books = record { fresh = refl; calls = (tt, (tt, (bytes-below armBytes refl, (tt, (tt, tt))))); reads = reads; on-books = on-books }
+unfolding all tree.encode wordBytes flat beBytes
+books =
+    record {
+      fresh = refl;
+      calls = (tt, (tt, (bytes-below armBytes refl, (tt, (tt, tt)))));
+      value = refl;
+      reads = reads;
+      on-books = on-books;
+    }

@@ -1,3 +1,7 @@
--- What the reader answers to bytes by what they are, and the readers (rule 1.4); the history of one call more.
+-- What the reader answers to bytes by what they are, and the readers (rule 1.4); numbered places; the history of one call more; clocks;
+-- what follows from the words of the book and the history.
 pub mod Readings
+pub mod Places
 pub mod Longer
+pub mod Clocks
+pub mod Words

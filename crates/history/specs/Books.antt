@@ -4,36 +4,41 @@ use Prim.Native.Nat.{ℕ, zero, suc}
 use mathlib.Core.Path.{_≡_}
 use mathlib.Core.Bool.{Bool, true, false}
 use mathlib.Core.List.{List, [], _∷_, _++_, map}
+use mathlib.Core.Option.{Option, none, some}
 use lib.ListN.{take, replicate}
 use Rattle.fields.specs.Lists.{Each}
 use Rattle.content.specs.Kinds.{transformText, positionText}
-use Rattle.message.specs.Samples.{armMessage, armBytes, probeBytes}
-use Rattle.history.specs.Calls.{Call, add, linkUp, linkDown, message, look, OfBytes}
+use Rattle.message.specs.Samples.{armMessage, armBytes, armContent, probeBytes}
+use Rattle.history.specs.Calls.{Call, add, linkUp, linkDown, message, look, Entry, OfBytes}
 use Rattle.history.specs.Reading.{noMessage, leftOver, oneMessage, Reader}
-use Rattle.history.specs.Summary.{Entry, Summary, freshSummary, numberOn, next, summaryOf}
+use Rattle.history.specs.Summary.{Summary, freshSummary, numberBy, numberOn, next, summaryOf}
+use Rattle.history.specs.History.{valueFor}
 use Rattle.history.specs.Examples.{nameOf}
 
 -- ---- the books
 
-abbrev pub bookOf : List Entry → Bool → ℕ → Summary
-bookOf tiles up clock = record { tiles = tiles; up = up; clock = clock }
+abbrev pub bookOf : List (Option Entry) → Bool → ℕ → Summary
+bookOf tiles up clock = record { tiles = tiles; link = record { up = up; clock = clock } }
 
 -- a tile with this type and name, and the hold time 500
 abbrev pub tileOf : List ℕ → List ℕ → Entry
 tileOf type name = record { typeText = type; name = name; holdTime = 500 }
 
 -- n TRANSFORM tiles; their names have 1 to n bytes
-abbrev pub tilesTo : ℕ → List Entry
+abbrev pub tilesTo : ℕ → List (Option Entry)
 tilesTo zero = []
-tilesTo (suc n) = tilesTo n ++ (tileOf transformText (nameOf (suc n)) ∷ [])
+tilesTo (suc n) = tilesTo n ++ (some (tileOf transformText (nameOf (suc n))) ∷ [])
 
 -- the name "Arm"
 abbrev pub armName : List ℕ
 armName = 65 ∷ 114 ∷ 109 ∷ []
 
 -- one tile: TRANSFORM, "Arm"
-abbrev pub armTiles : List Entry
-armTiles = tileOf transformText armName ∷ []
+abbrev pub armTile : Entry
+armTile = tileOf transformText armName
+
+abbrev pub armTiles : List (Option Entry)
+armTiles = some armTile ∷ []
 
 -- the tile, link up at 1000, its message at 1200
 abbrev pub armCalls : List Call
@@ -97,8 +102,8 @@ module _ (R : Reader) where
         ≡ 15 ∷ 14 ∷ 14 ∷ 14 ∷ []
     -- no tile has its name and type: no tile at all; another type; another name
     pub messages-unknown : numberOn R (bookOf [] true 0) (message 0 armBytes)
-        ∷ numberOn R (bookOf (tileOf positionText armName ∷ []) true 0) (message 0 armBytes)
-        ∷ numberOn R (bookOf (tileOf transformText (nameOf 3) ∷ []) true 0) (message 0 armBytes)
+        ∷ numberOn R (bookOf (some (tileOf positionText armName) ∷ []) true 0) (message 0 armBytes)
+        ∷ numberOn R (bookOf (some (tileOf transformText (nameOf 3)) ∷ []) true 0) (message 0 armBytes)
         ∷ []
         ≡ 13 ∷ 13 ∷ 13 ∷ []
     -- looks: tile 15 of sixteen; 19; 19 before 15; 15. The link does not matter
@@ -106,7 +111,7 @@ module _ (R : Reader) where
         ≡ 0 ∷ 19 ∷ 19 ∷ 15 ∷ []
     -- what is noted: an add's tile, after the others; link and clock of a link call; the clock of a message that counts; nothing of a look
     pub added : next R (bookOf armTiles true 1200) (add positionText armName 60000)
-        ≡ bookOf (tileOf transformText armName ∷ record { typeText = positionText; name = armName; holdTime = 60000 } ∷ []) true 1200
+        ≡ bookOf (some armTile ∷ some (record { typeText = positionText; name = armName; holdTime = 60000 }) ∷ []) true 1200
     pub linked : booksAfter (bookOf armTiles true 1200) (linkUp 1300 ∷ linkDown 1300 ∷ [])
         ≡ bookOf armTiles true 1300 ∷ bookOf armTiles false 1300 ∷ []
     pub counted : booksAfter (bookOf armTiles true 1200) (message 1300 armBytes ∷ look 0 1300 ∷ [])
@@ -133,12 +138,27 @@ module _ (R : Reader) where
         ∷ look 0 1700
         ∷ add transformText (nameOf 1) 500
         ∷ [])
-        ≡ bookOf (tileOf transformText armName ∷ tileOf transformText (nameOf 1) ∷ []) true 1200
+        ≡ bookOf (some armTile ∷ some (tileOf transformText (nameOf 1)) ∷ []) true 1200
+    -- free places among the tiles: fifteen tiles and one free place; sixteen; a look at a free place
+    pub gaps : numberOn R (bookOf (none ∷ tilesTo 15) true 0) (add transformText (nameOf 16) 500)
+        ∷ numberOn R (bookOf (none ∷ tilesTo 16) true 0) (add transformText (nameOf 17) 500)
+        ∷ numbersOn (bookOf (tilesTo 2 ++ (none ∷ armTiles)) true 0) (look 1 0 ∷ look 2 0 ∷ look 3 0 ∷ look 4 0 ∷ message 0 armBytes ∷ [])
+        ≡ 0 ∷ 18 ∷ 0 ∷ 19 ∷ 0 ∷ 19 ∷ 0 ∷ []
+    -- a tile takes the first of them
+    pub gap-filled : next R (bookOf (armTiles ++ (none ∷ none ∷ tilesTo 1)) true 0) (add transformText (nameOf 3) 500)
+        ≡ bookOf (armTiles ++ (some (tileOf transformText (nameOf 3)) ∷ none ∷ tilesTo 1)) true 0
+    -- whether the table is full is given
+    pub full : numberBy R true (bookOf [] true 0) (add transformText armName 500)
+        ∷ numberBy R false (bookOf (tilesTo 16) true 0) (add transformText armName 500)
+        ∷ []
+        ≡ 18 ∷ 0 ∷ []
 
 pub record Books : Type 0 where
   -- rule 7.1
   pub fresh : freshSummary ≡ bookOf [] false 0
   -- calls of every kind can be made
   pub calls : Each OfBytes (armCalls ++ (linkDown 1300 ∷ look 0 1400 ∷ []))
+  -- the value of the message from "Arm"
+  pub value : valueFor armMessage armTile ≡ armContent
   pub reads : (R : Reader) → Read R
   pub on-books : (R : Reader) → OnBooks R

@@ -1,6 +1,7 @@
--- The calls on a panel, with whatever bytes, clocks and numbers they carry, and what they answer.
+-- The calls on a panel, with whatever bytes, clocks and numbers they carry; what the book notes of them; and what they answer.
 use Prim.Native.Nat.{ℕ, _-_, _≤_}
 use mathlib.Core.Path.{_≡_}
+use mathlib.Core.Bool.{Bool, true, false}
 use mathlib.Core.List.{List, _++_}
 use lib.ListN.{length, take, replicate}
 use Rattle.fields.specs.Bytes.{Bytes}
@@ -12,23 +13,58 @@ pub data Call : Type 0 where
   message : (clock : ℕ) (bytes : List ℕ) → Call
   look : (tile clock : ℕ) → Call
 
+-- ---- what the book notes of a call that is not refused (rule 7.8)
+
+-- a tile as the book has it. Its hold time is how many milliseconds old a message may be that makes it green (rules 1.7 and 7.3)
+pub record Entry : Type 0 where
+  pub typeText : List ℕ
+  pub name : List ℕ
+  pub holdTime : ℕ
+
+-- whether the link is up, and the clock (rule 7.6)
+pub record Link : Type 0 where
+  pub up : Bool
+  pub clock : ℕ
+
+-- a new tile; a new link; a message, which counts; nothing
+pub data Note : Type 0 where
+  adding : Entry → Note
+  linking : Link → Note
+  receiving : (clock : ℕ) (bytes : List ℕ) → Note
+  nothing : Note
+
+abbrev pub noteOf : Call → Note
+noteOf (add t n h) = adding (record { typeText = t; name = n; holdTime = h })
+noteOf (linkUp t) = linking (record { up = true; clock = t })
+noteOf (linkDown t) = linking (record { up = false; clock = t })
+noteOf (message t s) = receiving t s
+noteOf (look i t) = nothing
+
+abbrev pub BytesIn : Note → Type 0
+BytesIn (adding e) = Unit {0}
+BytesIn (linking l) = Unit {0}
+BytesIn (receiving t s) = Bytes s
+BytesIn nothing = Unit {0}
+
 -- what holds of every call that can be made: the bytes of a message are bytes
 abbrev pub OfBytes : Call → Type 0
-OfBytes (add t n h) = Unit {0}
-OfBytes (linkUp t) = Unit {0}
-OfBytes (linkDown t) = Unit {0}
-OfBytes (message t s) = Bytes s
-OfBytes (look i t) = Unit {0}
+OfBytes c = BytesIn (noteOf c)
 
--- refused with a number; accepted, as a link call or a message that counts (rule 7.5); added, with the tile's number; and the three cases
--- of a look, green and grey with the age and the value
+-- ---- answers
+
+-- the colours of a tile for which a message counted (rules 1.7 and 1.8)
+pub data Colour : Type 0 where
+  green : Colour
+  grey : Colour
+
+-- refused with a number; accepted, as a link call or a message that counts (rule 7.5); added, with the tile's number; and what a look shows:
+-- no message yet, or a colour with the age and the value
 pub data Answer : Type 0 where
   refused : (number : ℕ) → Answer
   accepted : Answer
   added : (tile : ℕ) → Answer
   empty : Answer
-  green : (age : ℕ) (value : List ℕ) → Answer
-  grey : (age : ℕ) (value : List ℕ) → Answer
+  shown : Colour → (age : ℕ) (value : List ℕ) → Answer
 
 -- a value is handed out as 48 bytes and a length: the bytes that are its own
 abbrev pub valueBytes : List ℕ → ℕ → List ℕ
@@ -46,5 +82,4 @@ answerNumber (refused n) = n
 answerNumber accepted = 0
 answerNumber (added i) = 0
 answerNumber empty = 0
-answerNumber (green a v) = 0
-answerNumber (grey a v) = 0
+answerNumber (shown k a v) = 0

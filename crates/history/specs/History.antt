@@ -8,10 +8,11 @@ use mathlib.Core.List.{List}
 use mathlib.Core.Option.{Option, none, some}
 use lib.ListN.{length, take, getD}
 use Rattle.content.specs.Tree as tree
-use Rattle.message.specs.Message.{Message, WellFormed, encode}
-use Rattle.history.specs.Calls.{Call, add, linkUp, linkDown, message, look, Answer, refused, accepted, added, empty, green, grey}
-use Rattle.history.specs.Reading.{Reader}
-use Rattle.history.specs.Summary.{Entry, Summary, tileAt, passes, carries, numberOn, summaryOf}
+use Rattle.message.specs.Message.{Message}
+use Rattle.history.specs.Calls.{Call, add, linkUp, linkDown, message, look, Entry, Link, linking, receiving, noteOf, Colour, green, grey, Answer, refused, accepted, added, empty, shown}
+use Rattle.history.specs.Places.{passes, firstFree}
+use Rattle.history.specs.Reading.{oneMessage, Reader}
+use Rattle.history.specs.Summary.{Summary, tileAt, carries, numberOn, summaryOf}
 
 abbrev pub callAt : List Call → ℕ → Call
 callAt cs k = getD cs k (look 0 0)
@@ -21,38 +22,28 @@ abbrev pub holdTimeOf : Option Entry → ℕ
 holdTimeOf none = 0
 holdTimeOf (some e) = e .holdTime
 
--- the value that a message gives a tile: its content
-abbrev pub valueFor : Message → List ℕ
-valueFor m = tree.encode (m .content)
+-- the value that a message gives a tile: its content (rule 7.7)
+abbrev pub valueFor : Message → Entry → List ℕ
+valueFor m e = tree.encode (m .content)
 
--- a link call
-abbrev pub IsLink : Call → Type 0
-IsLink (add t n h) = ⊥
-IsLink (linkUp t) = Unit {0}
-IsLink (linkDown t) = Unit {0}
-IsLink (message t s) = ⊥
-IsLink (look i t) = ⊥
+-- the answer is this colour, with some age and value
+abbrev pub IsColour : Colour → Answer → Type 0
+IsColour k a = (age : ℕ) × (value : List ℕ) × (a ≡ shown k age value)
 
--- the answer is green, or grey, with some age and value
-abbrev pub IsGreen : Answer → Type 0
-IsGreen a = (age : ℕ) × (value : List ℕ) × (a ≡ green age value)
-
-abbrev pub IsGrey : Answer → Type 0
-IsGrey a = (age : ℕ) × (value : List ℕ) × (a ≡ grey age value)
-
--- it is green or grey: a value goes with it
+-- it is some colour: a value goes with it
 abbrev pub IsColoured : Answer → Type 0
-IsColoured a = IsGreen a ⊎ IsGrey a
+IsColoured a = (k : Colour) × IsColour k a
 
 module _ (R : Reader) where
   abbrev pub summaryBefore : List Call → ℕ → Summary
   summaryBefore cs k = summaryOf R (take k cs)
 
-  -- the call c, where the book is b, is the message m with that clock; it counts, and the book already has a tile i of its name and type
-  -- (rule 7.9)
+  -- the call c, where the book is b, has that clock and bytes that are the message m; it counts, and the book already has a tile i of its
+  -- name and type (rule 7.9)
   pub record CountsFor (b : Summary) (c : Call) (i clock : ℕ) (m : Message) : Type 0 where
-    pub well : WellFormed m
-    pub is : c ≡ message clock (encode m)
+    pub bytes : List ℕ
+    pub is : noteOf c ≡ receiving clock bytes
+    pub read : R .read bytes ≡ oneMessage m
     pub counts : numberOn R b c ≡ 0
     pub carried : passes (carries m) (tileAt b i) ≡ true
 
@@ -63,12 +54,17 @@ module _ (R : Reader) where
 
   -- an accepted link call
   pub record LinkCall (b : Summary) (c : Call) : Type 0 where
-    pub link : IsLink c
+    pub link : Link
+    pub is : noteOf c ≡ linking link
     pub accepted : numberOn R b c ≡ 0
+
+  -- no call after place k is so, where P says it of the book before a call and the call
+  abbrev pub NoneAfter : (Summary → Call → Type 0) → List Call → ℕ → Type 0
+  NoneAfter P cs k = (j : ℕ) → k < j → j < length cs → P (summaryBefore cs j) (callAt cs j) → ⊥
 
   -- no accepted link call stands after place k
   abbrev pub NoLinkAfter : List Call → ℕ → Type 0
-  NoLinkAfter cs k = (j : ℕ) → k < j → j < length cs → LinkCall (summaryBefore cs j) (callAt cs j) → ⊥
+  NoLinkAfter cs k = NoneAfter LinkCall cs k
 
   -- the condition for green (rule 1.7)
   pub record Current (cs : List Call) (i now : ℕ) : Type 0 where
@@ -88,25 +84,28 @@ module _ (R : Reader) where
     pub counted : Counted cs i k clock m
     pub last : (j t : ℕ) (n : Message) → Counted cs i j t n → j ≤ k
 
-  -- green or grey, with the value of the last message that counted, and with the look's clock less that message's as the age
+  -- a colour, with the value that the last message that counted gives the tile, and with the look's clock less that message's as the age
   pub record OfLast (cs : List Call) (i now : ℕ) (a : Answer) : Type 0 where
     pub place : ℕ
     pub clock : ℕ
     pub message : Message
+    pub tile : Entry
+    pub colour : Colour
     pub last : Last cs i place clock message
     pub not-later : clock ≤ now
-    pub shown : (a ≡ green (now - clock) (valueFor message)) ⊎ (a ≡ grey (now - clock) (valueFor message))
+    pub there : tileAt (summaryOf R cs) i ≡ some tile
+    pub is : a ≡ shown colour (now - clock) (valueFor message tile)
 
   -- what a look at tile i shows after the calls cs
   pub record Shown (cs : List Call) (i now : ℕ) (a : Answer) : Type 0 where
-    pub is-green : IsGreen a ↔ Current cs i now
+    pub is-green : IsColour green a ↔ Current cs i now
     pub is-empty : (a ≡ empty) ↔ NoneCounted cs i
-    pub is-grey : IsGrey a ↔ ((NoneCounted cs i → ⊥) × (Current cs i now → ⊥))
+    pub is-grey : IsColour grey a ↔ ((NoneCounted cs i → ⊥) × (Current cs i now → ⊥))
     pub of-last : NoneCounted cs i ⊎ OfLast cs i now a
 
-  -- what a call answers that is not refused; an add, the number of tiles before it
+  -- what a call answers that is not refused; an add, the smallest number that no tile has
   abbrev pub Accepted : List Call → Call → Answer → Type 0
-  Accepted cs (add t n h) a = a ≡ added (length (summaryOf R cs .tiles))
+  Accepted cs (add t n h) a = a ≡ added (firstFree (summaryOf R cs .tiles))
   Accepted cs (linkUp t) a = a ≡ accepted
   Accepted cs (linkDown t) a = a ≡ accepted
   Accepted cs (message t s) a = a ≡ accepted

@@ -8,13 +8,10 @@ use native.Mathlib.Omega.{arith}
 use lib.Dec.{eqb}
 use lib.ListN.{length}
 use Rattle.fields.specs.Bytes.{same, sized}
-use Rattle.fields.specs.Lists.{all, any, flat}
-use Rattle.fields.specs.Numbers.{beBytes}
+use Rattle.fields.specs.Lists.{all, any}
 use Rattle.fields.specs.Text.{isText}
 use Rattle.fields.specs.Checks.{orElse}
-use Rattle.pose.specs.Words.{wordBytes}
 use Rattle.content.specs.Kinds.{transformText, positionText}
-use Rattle.content.specs.Tree as tree
 use Rattle.fields.proofs.Laws.Checks.{else-zero}
 use Rattle.content.specs.Check.{deepest}
 use Rattle.message.specs.Message.{Message, encode}
@@ -24,7 +21,7 @@ use Rattle.message.specs.declared.Answer.{Answer as Read}
 use Rattle.message.specs.Samples.{armMessage, armBytes, armAnswer, armContent, zeroBytes, zeroAnswer}
 use Rattle.message.proofs.Samples.{samples}
 use Rattle.message.proofs.Laws.Messages.{demand-2}
-use Rattle.history.specs.Calls.{add, linkUp, linkDown, message, look, Answer, refused, green, grey}
+use Rattle.history.specs.Calls.{add, linkUp, linkDown, message, look, green, grey, Answer, refused, shown}
 use Rattle.history.specs.Summary.{Summary, isAllowed, allowedFault, clockFault, numberOn}
 use Rattle.history.specs.History.{valueFor, Shown}
 use Rattle.history.proofs.Books.{books}
@@ -37,11 +34,11 @@ use Rattle.panel.specs.declared.CallResult.{CallResult}
 use Rattle.panel.specs.Tiles.{valueOf, labelOf, countedFor, isTile}
 use Rattle.panel.specs.Calls.{labelIn, addFault, addOf, linkOf, readFault, messageFault, received, refusedCall, messageOf, lookFault, lookOf}
 use Rattle.panel.specs.Demand3.{answerTo, panelNext, panelAfter}
-use Rattle.panel.specs.Examples.{armText, FromArm, armCalls, armBytesCalls, threeTiles, oneCounted, twoCounted, ArmLook, armValue, zeroValue, Examples}
+use Rattle.panel.specs.Examples.{armText, FromArm, armTile, armBytesCalls, threeTiles, oneCounted, twoCounted, ArmLook, armValue, zeroValue, Examples}
 use Rattle.panel.proofs.Laws.Calls.{message-accepted, read-whole}
 use Rattle.history.proofs.Laws.Readings.{begins-one, one-step}
 use Rattle.panel.proofs.Laws.Contents.{bytesOf, pose-short, value-bytes}
-use Rattle.panel.proofs.Laws.Faults.{panel-changed}
+use Rattle.panel.proofs.Laws.Rows.{panel-changed}
 use Rattle.panel.proofs.Laws.Checked.{begun-label, begun-value}
 use Rattle.panel.proofs.Laws.Demand3.{demand-3}
 
@@ -66,6 +63,10 @@ module _ (m : Message) (f : FromArm m) where
   front : Begins (encode m) m
   front = begins-one (encode m) m (f .well) refl
 
+  -- the value that it gives the tile
+  abbrev value : List ℕ
+  value = valueFor m (armTile 500)
+
   label-is : labelIn (encode m) (readOf (encode m)) ≡ arm
   label-is = begun-label (encode m) m front ∙ ap₂ labelOf (f .is-transform) (f .is-arm)
 
@@ -83,20 +84,20 @@ module _ (m : Message) (f : FromArm m) where
         else-zero (clockFault (p .link .clock) t) _ (c .in-time)
         (else-zero (cond (p .link .up) 0 14) _ (ap (λ (b : Bool). cond b 0 14) (c .is-up)) read-fault)
 
-    counted-panel : panelNext p (message t (encode m)) ≡ countedPanel p t (valueOf (valueFor m))
+    counted-panel : panelNext p (message t (encode m)) ≡ countedPanel p t (valueOf value)
     counted-panel =
         panel-changed p (message t (encode m)) message-fault
         ∙ ap₂ (λ (l : Label) (v : Value). record { tiles = map (countedFor l t v) (p .tiles); link = record { up = true; clock = t } })
-        label-is (begun-value (encode m) m front)
+        label-is (begun-value (encode m) m (armTile 500) front)
 
     -- what a look shows after it and the next calls
-    shown : (next : Panel → Panel) (i now : ℕ) (a : List ℕ → Answer)
-        → answerTo (next (countedPanel p t (valueOf (valueFor m)))) (look i now) ≡ a (bytesOf (valueOf (valueFor m)))
-        → answerTo (next (panelNext p (message t (encode m)))) (look i now) ≡ a (valueFor m)
-    shown next i now a e =
+    shown-after : (next : Panel → Panel) (i now : ℕ) (a : List ℕ → Answer)
+        → answerTo (next (countedPanel p t (valueOf value))) (look i now) ≡ a (bytesOf (valueOf value))
+        → answerTo (next (panelNext p (message t (encode m)))) (look i now) ≡ a value
+    shown-after next i now a e =
         ap (λ (q : Panel). answerTo (next q) (look i now)) counted-panel
         ∙ e
-        ∙ ap a (value-bytes (valueFor m) (pose-short (m .content) deepest (f .well .content) (inl (f .is-transform))))
+        ∙ ap a (value-bytes value (pose-short (m .content) deepest (f .well .content) (inl (f .is-transform))))
 
 -- it counts after the first two calls
 linked-counts : Counts linkedPanel 1200
@@ -108,16 +109,12 @@ linked-counts = record { in-time = refl; is-up = refl; has-arm = refl }
 arm-from : FromArm armMessage
 arm-from = record { well = samples .arm .well; is-transform = refl; is-arm = refl }
 
-arm-value : valueFor armMessage ≡ armContent
-unfolding tree.encode wordBytes flat beBytes
-arm-value = refl
-
 arm-panel : panelAfter armBytesCalls ≡ countedPanel linkedPanel 1200 (valueOf armContent)
 unfolding panelAfter
 arm-panel =
     ap (λ (s : List ℕ). panelNext linkedPanel (message 1200 s)) (sym (samples .arm .bytes))
     ∙ counted-panel armMessage arm-from linkedPanel 1200 linked-counts
-    ∙ ap (λ (c : List ℕ). countedPanel linkedPanel 1200 (valueOf c)) arm-value
+    ∙ ap (λ (c : List ℕ). countedPanel linkedPanel 1200 (valueOf c)) (books .value)
 
 arm-look : (i now : ℕ) (a : LookAnswer) (v : Value)
     → (let p = countedPanel linkedPanel 1200 (valueOf armContent) in lookOf p i now ≡ record { panel = p; answer = a; value = v })
@@ -164,21 +161,21 @@ pub examples : Examples
 unfolding panelAfter addOf addFault linkOf readFault allowedFault isAllowed clockFault lookOf lookFault same sized any isText all
 examples =
     record {
-      p10 = λ m f. shown m f linkedPanel 1200 linked-counts (λ p. p) 0 1700 (green 500) refl;
-      p11 = λ m f. shown m f linkedPanel 1200 linked-counts (λ p. p) 0 1701 (grey 501) refl;
-      p11-before = λ m f. shown m f linkedPanel 1200 linked-counts (λ p. p) 0 1199 (λ v. refused 15) refl;
-      p12 = λ m f. shown m f linkedPanel 1200 linked-counts (λ p. panelNext p (linkUp 1400)) 0 1400 (grey 200) refl;
-      loose-cable = λ m f. shown m f linkedPanel 1200 linked-counts (λ p. panelNext p (linkDown 1400)) 0 1400 (grey 200) refl;
+      p10 = λ m f. shown-after m f linkedPanel 1200 linked-counts (λ p. p) 0 1700 (shown green 500) refl;
+      p11 = λ m f. shown-after m f linkedPanel 1200 linked-counts (λ p. p) 0 1701 (shown grey 501) refl;
+      p11-before = λ m f. shown-after m f linkedPanel 1200 linked-counts (λ p. p) 0 1199 (λ v. refused 15) refl;
+      p12 = λ m f. shown-after m f linkedPanel 1200 linked-counts (λ p. panelNext p (linkUp 1400)) 0 1400 (shown grey 200) refl;
+      loose-cable = λ m f. shown-after m f linkedPanel 1200 linked-counts (λ p. panelNext p (linkDown 1400)) 0 1400 (shown grey 200) refl;
       reconnect = λ m f.
-          shown m f linkedPanel 1200 linked-counts (λ p. panelNext (panelNext p (linkDown 1300)) (linkUp 1400)) 0 1400 (grey 200) refl;
+          shown-after m f linkedPanel 1200 linked-counts (λ p. panelNext (panelNext p (linkDown 1300)) (linkUp 1400)) 0 1400 (shown grey 200) refl;
       short-hold-time = λ m f.
-          shown m f (panelAfter (add transformText armText 499 ∷ linkUp 1000 ∷ [])) 1200 (record { in-time = refl; is-up = refl; has-arm = refl })
-          (λ p. p) 0 1700 (grey 500) refl;
-      refused-link = λ m f. shown m f linkedPanel 1200 linked-counts (λ p. panelNext p (linkUp 1199)) 0 1700 (green 500) refl;
+          shown-after m f (panelAfter (add transformText armText 499 ∷ linkUp 1000 ∷ [])) 1200 (record { in-time = refl; is-up = refl; has-arm = refl })
+          (λ p. p) 0 1700 (shown grey 500) refl;
+      refused-link = λ m f. shown-after m f linkedPanel 1200 linked-counts (λ p. panelNext p (linkUp 1199)) 0 1700 (shown green 500) refl;
       second-message = λ m n f g.
           ap (λ (p : Panel). answerTo (panelNext p (message 1300 (encode n))) (look 0 1700)) (counted-panel m f linkedPanel 1200 linked-counts)
-          ∙ shown n g (countedPanel linkedPanel 1200 (valueOf (valueFor m))) 1300 (record { in-time = refl; is-up = refl; has-arm = refl })
-          (λ p. p) 0 1700 (green 400) refl;
+          ∙ shown-after n g (countedPanel linkedPanel 1200 (valueOf (value m f))) 1300 (record { in-time = refl; is-up = refl; has-arm = refl })
+          (λ p. p) 0 1700 (shown green 400) refl;
       arm = arm-from;
       arm-bytes = samples .arm .bytes;
       arm-p10 = ap (λ (p : Panel). answerTo p (look 0 1700)) arm-panel;

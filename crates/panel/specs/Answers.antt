@@ -2,8 +2,12 @@
 use Prim.Native.Nat.{ℕ}
 use mathlib.Core.Bool.{cond}
 use lib.Dec.{eqb}
-use Rattle.history.specs.Calls.{Answer, refused, accepted, added, empty, green, grey, valueBytes}
+use Rattle.history.specs.Calls.{green, grey, Answer, refused, accepted, added, empty, shown, valueBytes}
 use Rattle.panel.specs.declared.Value.{Value}
+use Rattle.panel.specs.declared.Panel.{Panel}
+use Rattle.panel.specs.declared.AddResult.{AddResult}
+use Rattle.panel.specs.declared.CallResult.{CallResult}
+use Rattle.panel.specs.declared.LookResult.{LookResult}
 use Rattle.panel.specs.declared.AddAnswer.{AddAnswer}
 use Rattle.panel.specs.declared.AddAnswer.the-variants.{Added, Refused}
 use Rattle.panel.specs.declared.LookAnswer.{LookAnswer}
@@ -21,6 +25,20 @@ callAnswer n = cond (eqb n 0) accepted (refused n)
 -- of a look, with the value beside it
 abbrev pub lookAnswer : LookAnswer → Value → Answer
 lookAnswer looked.Empty v = empty
-lookAnswer (looked.Green a) v = green a (valueBytes (v .bytes) (v .len))
-lookAnswer (looked.Grey a) v = grey a (valueBytes (v .bytes) (v .len))
+lookAnswer (looked.Green a) v = shown green a (valueBytes (v .bytes) (v .len))
+lookAnswer (looked.Grey a) v = shown grey a (valueBytes (v .bytes) (v .len))
 lookAnswer (looked.Refused n) v = refused n
+
+-- what a call gives: the panel, and its answer in these words
+pub record Called : Type 0 where
+  pub panel : Panel
+  pub answer : Answer
+
+abbrev pub addCalled : AddResult → Called
+addCalled r = record { panel = r .panel; answer = addAnswer (r .answer) }
+
+abbrev pub callCalled : CallResult → Called
+callCalled r = record { panel = r .panel; answer = callAnswer (r .number) }
+
+abbrev pub lookCalled : LookResult → Called
+lookCalled r = record { panel = r .panel; answer = lookAnswer (r .answer) (r .value) }

@@ -8,25 +8,24 @@ use Rattle.fields.specs.Lists.{Each}
 use Rattle.history.specs.Calls.{Call, add, linkUp, linkDown, message, look, OfBytes, Answer, Padded, answerNumber}
 use Rattle.history.specs.Reading.{Reader, Readers}
 use Rattle.history.specs.History.{callAt, IsColoured, Answers}
+use Rattle.history.specs.Words.{Words}
 use Rattle.panel.specs.declared.Panel.{Panel}
-use Rattle.panel.specs.Answers.{addAnswer, callAnswer, lookAnswer}
+use Rattle.panel.specs.Answers.{Called, addCalled, callCalled, lookCalled}
 use Rattle.panel.specs.Calls.{freshPanel, addOf, linkOf, messageOf, lookOf}
 
--- what a call on a panel answers
-abbrev pub answerTo : Panel → Call → Answer
-answerTo p (add t n h) = addAnswer (addOf p t n h .answer)
-answerTo p (linkUp t) = callAnswer (linkOf true p t .number)
-answerTo p (linkDown t) = callAnswer (linkOf false p t .number)
-answerTo p (message t s) = callAnswer (messageOf p t s .number)
-answerTo p (look i now) = lookAnswer (lookOf p i now .answer) (lookOf p i now .value)
+-- what a call on a panel gives: its answer, and the panel
+abbrev pub called : Panel → Call → Called
+called p (add t n h) = addCalled (addOf p t n h)
+called p (linkUp t) = callCalled (linkOf true p t)
+called p (linkDown t) = callCalled (linkOf false p t)
+called p (message t s) = callCalled (messageOf p t s)
+called p (look i now) = lookCalled (lookOf p i now)
 
--- the panel that it gives back
+abbrev pub answerTo : Panel → Call → Answer
+answerTo p c = called p c .answer
+
 abbrev pub panelNext : Panel → Call → Panel
-panelNext p (add t n h) = addOf p t n h .panel
-panelNext p (linkUp t) = linkOf true p t .panel
-panelNext p (linkDown t) = linkOf false p t .panel
-panelNext p (message t s) = messageOf p t s .panel
-panelNext p (look i now) = lookOf p i now .panel
+panelNext p c = called p c .panel
 
 -- from a fresh panel on, each call gets the panel that the last one gave back
 unfoldable pub panelAfter : List Call → Panel
@@ -43,6 +42,8 @@ pub record Claim (R : Reader) (cs : List Call) : Type 0 where
 pub record Demand3 : Type 0 where
   -- with any reader (rule 1.4); there is one, and any two agree on all bytes
   pub readers : Readers
+  -- what the claim says of an answer leaves one; a tile's messages stand after its adding; tiles are numbered in order
+  pub words : Words
   pub claim : (R : Reader) (cs : List Call) → Each OfBytes cs → Claim R cs
   -- a refused call gives the panel back unchanged, and so does every look, for every panel
   pub refused : (p : Panel) (c : Call) → (answerNumber (answerTo p c) ≡ 0 → ⊥) → panelNext p c ≡ p

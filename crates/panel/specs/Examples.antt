@@ -10,7 +10,7 @@ use Rattle.content.specs.Tree.{typeText}
 use Rattle.message.specs.Message.{Message, WellFormed, encode}
 use Rattle.message.specs.Samples.{armMessage, armBytes, armContent, zeroBytes}
 use Rattle.history.specs.Books as books
-use Rattle.history.specs.Calls.{Call, add, linkUp, linkDown, message, look, Answer, refused, accepted, added, empty, green, grey}
+use Rattle.history.specs.Calls.{Call, add, linkUp, linkDown, message, look, Entry, green, grey, Answer, refused, accepted, added, empty, shown}
 use Rattle.history.specs.Reading.{Reader}
 use Rattle.history.specs.History.{valueFor, Shown}
 use Rattle.panel.specs.declared.Value.{Value}
@@ -31,7 +31,11 @@ pub record FromArm (m : Message) : Type 0 where
   pub is-transform : typeText (m .content) ≡ transformText
   pub is-arm : m .deviceName ≡ armText
 
--- a tile for Arm with this hold time, link up at 1000, and the message at 1200
+-- a tile for Arm with this hold time
+abbrev pub armTile : ℕ → Entry
+armTile h = record { typeText = transformText; name = armText; holdTime = h }
+
+-- that tile, link up at 1000, and the message at 1200
 abbrev pub armCallsWith : ℕ → Message → List Call
 armCallsWith h m = add transformText armText h ∷ linkUp 1000 ∷ message 1200 (encode m) ∷ []
 
@@ -81,42 +85,42 @@ abbrev pub threeBytes : Value
 threeBytes = record { bytes = 1 ∷ 2 ∷ 3 ∷ replicate 45 0; len = 3 }
 
 pub record Examples : Type 0 where
-  pub p10 : (m : Message) → FromArm m → looked (armCalls m) 1700 ≡ green 500 (valueFor m)
-  pub p11 : (m : Message) → FromArm m → looked (armCalls m) 1701 ≡ grey 501 (valueFor m)
+  pub p10 : (m : Message) → FromArm m → looked (armCalls m) 1700 ≡ shown green 500 (valueFor m (armTile 500))
+  pub p11 : (m : Message) → FromArm m → looked (armCalls m) 1701 ≡ shown grey 501 (valueFor m (armTile 500))
   pub p11-before : (m : Message) → FromArm m → looked (armCalls m) 1199 ≡ refused 15
-  pub p12 : (m : Message) → FromArm m → looked (armCalls m ++ (linkUp 1400 ∷ [])) 1400 ≡ grey 200 (valueFor m)
+  pub p12 : (m : Message) → FromArm m → looked (armCalls m ++ (linkUp 1400 ∷ [])) 1400 ≡ shown grey 200 (valueFor m (armTile 500))
   -- the cable comes loose; the cable is put back
-  pub loose-cable : (m : Message) → FromArm m → looked (armCalls m ++ (linkDown 1400 ∷ [])) 1400 ≡ grey 200 (valueFor m)
-  pub reconnect : (m : Message) → FromArm m → looked (armCalls m ++ (linkDown 1300 ∷ linkUp 1400 ∷ [])) 1400 ≡ grey 200 (valueFor m)
+  pub loose-cable : (m : Message) → FromArm m → looked (armCalls m ++ (linkDown 1400 ∷ [])) 1400 ≡ shown grey 200 (valueFor m (armTile 500))
+  pub reconnect : (m : Message) → FromArm m → looked (armCalls m ++ (linkDown 1300 ∷ linkUp 1400 ∷ [])) 1400 ≡ shown grey 200 (valueFor m (armTile 500))
   -- a shorter hold time; a link call that is refused; a second message, whose value and age are shown
-  pub short-hold-time : (m : Message) → FromArm m → looked (armCallsWith 499 m) 1700 ≡ grey 500 (valueFor m)
-  pub refused-link : (m : Message) → FromArm m → looked (armCalls m ++ (linkUp 1199 ∷ [])) 1700 ≡ green 500 (valueFor m)
+  pub short-hold-time : (m : Message) → FromArm m → looked (armCallsWith 499 m) 1700 ≡ shown grey 500 (valueFor m (armTile 499))
+  pub refused-link : (m : Message) → FromArm m → looked (armCalls m ++ (linkUp 1199 ∷ [])) 1700 ≡ shown green 500 (valueFor m (armTile 500))
   pub second-message : (m n : Message) → FromArm m → FromArm n
-      → looked (armCalls m ++ (message 1300 (encode n) ∷ [])) 1700 ≡ green 400 (valueFor n)
+      → looked (armCalls m ++ (message 1300 (encode n) ∷ [])) 1700 ≡ shown green 400 (valueFor n (armTile 500))
   -- there is such a message, and these are its bytes; P10 to P12 of them
   pub arm : FromArm armMessage
   pub arm-bytes : encode armMessage ≡ armBytes
-  pub arm-p10 : looked armBytesCalls 1700 ≡ green 500 armContent
-  pub arm-p11 : looked armBytesCalls 1701 ≡ grey 501 armContent
+  pub arm-p10 : looked armBytesCalls 1700 ≡ shown green 500 armContent
+  pub arm-p11 : looked armBytesCalls 1701 ≡ shown grey 501 armContent
   pub arm-p11-before : looked armBytesCalls 1199 ≡ refused 15
-  pub arm-p12 : looked (armBytesCalls ++ (linkUp 1400 ∷ [])) 1400 ≡ grey 200 armContent
+  pub arm-p12 : looked (armBytesCalls ++ (linkUp 1400 ∷ [])) 1400 ≡ shown grey 200 armContent
   -- and the words of demand 3
-  pub arm-shown : (R : Reader) → Shown R armBytesCalls 0 1700 (green 500 armContent)
+  pub arm-shown : (R : Reader) → Shown R armBytesCalls 0 1700 (shown green 500 armContent)
   -- of three tiles: a message counts for the one of its type and name, by whose hold time it is judged
-  pub counted-for : lookedAll oneCounted (0 ∷ 1 ∷ 2 ∷ 3 ∷ []) 1700 ≡ empty ∷ green 500 armContent ∷ empty ∷ refused 19 ∷ []
-  pub counted-older : lookedAll oneCounted (0 ∷ 1 ∷ 2 ∷ []) 1701 ≡ empty ∷ grey 501 armContent ∷ empty ∷ []
+  pub counted-for : lookedAll oneCounted (0 ∷ 1 ∷ 2 ∷ 3 ∷ []) 1700 ≡ empty ∷ shown green 500 armContent ∷ empty ∷ refused 19 ∷ []
+  pub counted-older : lookedAll oneCounted (0 ∷ 1 ∷ 2 ∷ []) 1701 ≡ empty ∷ shown grey 501 armContent ∷ empty ∷ []
   -- the age is not cut off: 2^32 ms and one; the latest clock
   pub counted-long-ago : lookedAll oneCounted (1 ∷ []) 4294968497 ∷ lookedAll oneCounted (1 ∷ []) 0xFFFFFFFFFFFFFFFF ∷ []
-      ≡ (grey 4294967297 armContent ∷ []) ∷ (grey 0xFFFFFFFFFFFFFB4F armContent ∷ []) ∷ []
+      ≡ (shown grey 4294967297 armContent ∷ []) ∷ (shown grey 0xFFFFFFFFFFFFFB4F armContent ∷ []) ∷ []
   -- the second message: its value and its age; the clock is that of the call
-  pub second-counted : lookedAll twoCounted (0 ∷ 1 ∷ 2 ∷ []) 1400 ≡ empty ∷ green 100 (replicate 48 0) ∷ empty ∷ []
+  pub second-counted : lookedAll twoCounted (0 ∷ 1 ∷ 2 ∷ []) 1400 ≡ empty ∷ shown green 100 (replicate 48 0) ∷ empty ∷ []
   pub second-clock : lookedAll twoCounted (0 ∷ 1 ∷ []) 1299 ≡ refused 15 ∷ refused 15 ∷ []
   -- a new link and a message on it; a fourth tile and a refused link call change no colour
-  pub green-again : lookedAll (twoCounted ++ (linkUp 1400 ∷ message 1500 armBytes ∷ [])) (1 ∷ []) 1500 ≡ green 0 armContent ∷ []
+  pub green-again : lookedAll (twoCounted ++ (linkUp 1400 ∷ message 1500 armBytes ∷ [])) (1 ∷ []) 1500 ≡ shown green 0 armContent ∷ []
   pub green-kept : lookedAll (twoCounted ++ (add positionText (65 ∷ []) 1 ∷ linkDown 1299 ∷ [])) (1 ∷ 3 ∷ []) 1400
-      ≡ green 100 (replicate 48 0) ∷ empty ∷ []
+      ≡ shown green 100 (replicate 48 0) ∷ empty ∷ []
   -- all at clock 0
-  pub at-zero : lookedAll (add transformText armText 500 ∷ linkUp 0 ∷ message 0 armBytes ∷ []) (0 ∷ []) 0 ≡ green 0 armContent ∷ []
+  pub at-zero : lookedAll (add transformText armText 500 ∷ linkUp 0 ∷ message 0 armBytes ∷ []) (0 ∷ []) 0 ≡ shown green 0 armContent ∷ []
   -- the same in the code's words: three adds; a link call; the message; looks
   pub arm-added : addOf freshPanel transformText armText 500 .answer ≡ add-answer.Added 0
   pub arm-twice : addOf (panelAfter armBytesCalls) transformText armText 500 .answer ≡ add-answer.Refused 17
@@ -136,6 +140,6 @@ pub record Examples : Type 0 where
       ∷ lookAnswer (look-answer.Grey 501) threeBytes
       ∷ lookAnswer (look-answer.Refused 19) threeBytes
       ∷ []
-      ≡ empty ∷ green 500 (1 ∷ 2 ∷ 3 ∷ []) ∷ grey 501 (1 ∷ 2 ∷ 3 ∷ []) ∷ refused 19 ∷ []
+      ≡ empty ∷ shown green 500 (1 ∷ 2 ∷ 3 ∷ []) ∷ shown grey 501 (1 ∷ 2 ∷ 3 ∷ []) ∷ refused 19 ∷ []
   -- a value of three bytes, as a tile keeps it
   pub short-value : valueOf (1 ∷ 2 ∷ 3 ∷ []) ≡ threeBytes

@@ -6,7 +6,7 @@ use mathlib.Core.Option.{none, some}
 use lib.ListN.{replicate}
 use Rattle.fields.specs.Layout.{join}
 use Rattle.message.specs.Samples.{armBytes}
-use Rattle.history.specs.Calls.{Call, add, linkUp, linkDown, message, look, refused, accepted, added, empty, green, grey}
+use Rattle.history.specs.Calls.{Call, add, linkUp, linkDown, message, look, green, grey, refused, accepted, added, empty, shown}
 use Rattle.panel.specs.Examples.{armValue, zeroValue}
 use Rattle.replay.specs.declared.CallAnswer.{CallAnswer}
 use Rattle.replay.specs.declared.CallAnswer.the-variants.{Accepted, Added, Empty, Green, Grey, Refused, NoCall}
@@ -84,7 +84,14 @@ pub record Examples : Type 0 where
   pub early-call : callsIn (1 ∷ (replicate 24 0 ++ (0 ∷ []))) ≡ linkUp 0 ∷ add [] [] 0 ∷ []
   -- what the answers say
   pub sayings : map (λ a. saying a (7 ∷ [])) (Accepted ∷ Added 3 ∷ Empty ∷ Green 500 ∷ Grey 501 ∷ Refused 15 ∷ NoCall ∷ [])
-      ≡ some accepted ∷ some (added 3) ∷ some empty ∷ some (green 500 (7 ∷ [])) ∷ some (grey 501 (7 ∷ [])) ∷ some (refused 15) ∷ none ∷ []
+      ≡ some accepted
+      ∷ some (added 3)
+      ∷ some empty
+      ∷ some (shown green 500 (7 ∷ []))
+      ∷ some (shown grey 501 (7 ∷ []))
+      ∷ some (refused 15)
+      ∷ none
+      ∷ []
   -- P10's calls, run, and looks after them
   pub arm-added : answerAt armScript 0 ≡ withoutBytes (Added 0)
   pub arm-linked : answerAt armScript 1 ≡ withoutBytes Accepted

@@ -6,7 +6,7 @@ use mathlib.Core.List.{List, [], _∷_}
 use mathlib.Core.Option.{Option, none, some}
 use lib.Dec.{eqb}
 use lib.ListN.{length, take}
-use Rattle.history.specs.Calls.{Call, add, linkUp, linkDown, message, look, Answer, refused, accepted, added, empty, green, grey, valueBytes, Padded}
+use Rattle.history.specs.Calls.{Call, add, linkUp, linkDown, message, look, green, grey, Answer, refused, accepted, added, empty, shown, valueBytes, Padded}
 use Rattle.history.specs.Reading.{Reader}
 use Rattle.history.specs.History.{callAt, IsColoured, Answers}
 use Rattle.panel.specs.declared.Panel.{Panel}
@@ -80,8 +80,8 @@ abbrev pub saying : CallAnswer → List ℕ → Option Answer
 saying Accepted v = some accepted
 saying (Added i) v = some (added i)
 saying Empty v = some empty
-saying (Green a) v = some (green a v)
-saying (Grey a) v = some (grey a v)
+saying (Green a) v = some (shown green a v)
+saying (Grey a) v = some (shown grey a v)
 saying (Refused n) v = some (refused n)
 saying NoCall v = none
 

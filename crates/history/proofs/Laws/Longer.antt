@@ -2,18 +2,43 @@
 use Prim.Native.Nat.{ℕ, _+_, _<_, _≤_}
 use mathlib.Core.Path.{_≡_, refl, ap, sym, subst, _∙_}
 use mathlib.Core.Logic.{_⊎_, inl, inr, ⊎-elim}
-use mathlib.Core.List.{List, [], _∷_, _++_, foldl-append}
+use mathlib.Core.Bool.{Bool, cond}
+use mathlib.Core.List.{List, [], _∷_, _++_, append-nil, append-assoc, foldl-append}
 use native.Mathlib.Omega.{arith}
 use lib.Dec.{ltb}
 use lib.ListN.{length, length-append, List·getD-append}
 use lib.Seq.{take-append-le, take-append-seam, getD-append-seam}
-use borrow.Author.Tests.{ltb-true, ltb-false}
+use borrow.Author.Tests.{eq-eqb, ne-eqb, ltb-true, ltb-false}
 use Rattle.message.specs.Message.{Message}
-use Rattle.history.specs.Calls.{Call, look}
-use Rattle.history.specs.Reading.{Reader}
-use Rattle.history.specs.Summary.{Summary, next, summaryOf, freshSummary}
-use Rattle.history.specs.History.{callAt, summaryBefore, CountsFor, Counted, LinkCall, NoLinkAfter, NoneCounted}
+use Rattle.history.specs.Calls.{Call, look, Entry, adding, receiving, noteOf}
+use Rattle.history.specs.Reading.{oneMessage, Reader}
+use Rattle.history.specs.Places.{firstFree}
+use Rattle.history.specs.Summary.{Summary, noted, numberOn, next, summaryOf, freshSummary}
+use Rattle.history.specs.History.{callAt, summaryBefore, CountsFor, Counted, NoneAfter}
+use Rattle.history.specs.Words.{AddedAt}
 use Rattle.fields.proofs.Laws.Tests.{by-test}
+
+-- what holds of no calls and of one call more holds of all
+pub by-calls {ℓ} : (P : List Call → Type ℓ) → P [] → ((cs : List Call) (c : Call) → P cs → P (cs ++ (c ∷ []))) → (cs : List Call) → P cs
+by-calls P z s cs = from [] z cs
+  where
+    from : (done : List Call) → P done → (todo : List Call) → P (done ++ todo)
+    from done h [] = subst P (sym (append-nil done)) h
+    from done h (c ∷ todo) = subst P (append-assoc done (c ∷ []) todo) (from (done ++ (c ∷ [])) (s done c h) todo)
+
+-- a call is one message
+pub same-received : (R : Reader) (t u : ℕ) (x y : List ℕ) (m n : Message) → receiving t x ≡ receiving u y → R .read x ≡ oneMessage m → R .read y ≡ oneMessage n
+    → (t ≡ u) × (m ≡ n)
+same-received R t u x y m n e h k = (clocks, messages (sym h ∙ ap (R .read) bytes ∙ k))
+  where
+    clocks : t ≡ u
+    clocks = cc
+
+    bytes : x ≡ y
+    bytes = cc
+
+    messages : oneMessage m ≡ oneMessage n → m ≡ n
+    messages q = cc
 
 module _ (R : Reader) where
   pub summary-more : (cs : List Call) (c : Call) → summaryOf R (cs ++ (c ∷ [])) ≡ next R (summaryOf R cs) c
@@ -24,7 +49,18 @@ module _ (R : Reader) where
     abbrev pub longer : List Call
     longer = cs ++ (c ∷ [])
 
-    longer-length : length longer ≡ length cs + 1
+    -- the book after the call
+    pub book-next : numberOn R (summaryOf R cs) c ≡ 0 → summaryOf R longer ≡ noted (summaryOf R cs) (noteOf c)
+    book-next z =
+        summary-more cs c
+        ∙ ap (λ (t : Bool). cond t (noted (summaryOf R cs) (noteOf c)) (summaryOf R cs)) (eq-eqb (numberOn R (summaryOf R cs) c) 0 z)
+
+    pub book-kept : (numberOn R (summaryOf R cs) c ≡ 0 → ⊥) → summaryOf R longer ≡ summaryOf R cs
+    book-kept z =
+        summary-more cs c
+        ∙ ap (λ (t : Bool). cond t (noted (summaryOf R cs) (noteOf c)) (summaryOf R cs)) (ne-eqb (numberOn R (summaryOf R cs) c) 0 z)
+
+    pub longer-length : length longer ≡ length cs + 1
     longer-length = length-append cs (c ∷ [])
 
     -- ---- the calls of the shorter sequence, and the new one
@@ -42,7 +78,7 @@ module _ (R : Reader) where
     call-new = getD-append-seam cs c [] (look 0 0)
 
     -- a property of the book before a call and the call, at an old place and at the new one
-    old-place : (P : Summary → Call → Type 0) (k : ℕ) → k < length cs
+    pub old-place : (P : Summary → Call → Type 0) (k : ℕ) → k < length cs
         → (P (summaryBefore R longer k) (callAt longer k) → P (summaryBefore R cs k) (callAt cs k))
         × (P (summaryBefore R cs k) (callAt cs k) → P (summaryBefore R longer k) (callAt longer k))
     old-place P k h =
@@ -52,7 +88,7 @@ module _ (R : Reader) where
           (λ y. subst (λ (b : Summary). P b (callAt longer k)) (sym e) (subst (P (summaryBefore R cs k)) (sym g) y)),
         )
 
-    new-place : (P : Summary → Call → Type 0) (k : ℕ) → k ≡ length cs
+    pub new-place : (P : Summary → Call → Type 0) (k : ℕ) → k ≡ length cs
         → (P (summaryBefore R longer k) (callAt longer k) → P (summaryOf R cs) c)
         × (P (summaryOf R cs) c → P (summaryBefore R longer k) (callAt longer k))
     new-place P k h =
@@ -62,50 +98,72 @@ module _ (R : Reader) where
           (λ y. subst (λ (b : Summary). P b (callAt longer k)) (sym e) (subst (P (summaryOf R cs)) (sym g) y)),
         )
 
-    pub counted-more : (i k t : ℕ) (m : Message) → Counted R cs i k t m → Counted R longer i k t m
+    -- a call that is so stands at an old place, or is the new one
+    pub place-cases : (P : Summary → Call → Type 0) (k : ℕ) → k < length longer → P (summaryBefore R longer k) (callAt longer k)
+        → ((k < length cs) × P (summaryBefore R cs k) (callAt cs k)) ⊎ ((k ≡ length cs) × P (summaryOf R cs) c)
+    place-cases P k h d =
+        by-test (ltb k (length cs))
+        (λ q. let l : k < length cs = ltb-true _ _ q in inl (l, old-place P k l .0 d))
+        (λ q.
+        let e : k ≡ length cs = omega (arith, longer-length, h, ltb-false k (length cs) q) in
+        inr (e, new-place P k e .0 d))
+
+    -- none stands after place k
+    module _ (P : Summary → Call → Type 0) where
+      pub none-more : (k : ℕ) → (P (summaryOf R cs) c → ⊥) → NoneAfter R P cs k → NoneAfter R P longer k
+      none-more k n u j kj jl h = ⊎-elim (λ w. u j kj (w .0) (w .1)) (λ w. n (w .1)) (place-cases P j jl h)
+
+      pub none-less : (k : ℕ) → NoneAfter R P longer k → NoneAfter R P cs k
+      none-less k u j kj jl h = u j kj (omega (arith, longer-length, jl)) (old-place P j jl .1 h)
+
+      pub none-now : NoneAfter R P longer (length cs)
+      none-now j kj jl h = omega (arith, longer-length, kj, jl)
+
+      pub one-now : (k : ℕ) → k < length cs → P (summaryOf R cs) c → NoneAfter R P longer k → ⊥
+      one-now k h l u = u (length cs) h (omega (arith, longer-length)) (new-place P (length cs) refl .1 l)
+
+    -- ---- what counted for a tile
+
+    abbrev CountsAs : ℕ → ℕ → Message → Summary → Call → Type 0
+    CountsAs i t m b x = CountsFor R b x i t m
+
+    counted-more : (i k t : ℕ) (m : Message) → Counted R cs i k t m → Counted R longer i k t m
     counted-more i k t m d =
         record {
           within = omega (arith, longer-length, d .within);
-          counts-for = old-place (λ b x. CountsFor R b x i t m) k (d .within) .1 (d .counts-for);
+          counts-for = old-place (CountsAs i t m) k (d .within) .1 (d .counts-for);
         }
 
     pub counted-now : (i t : ℕ) (m : Message) → CountsFor R (summaryOf R cs) c i t m → Counted R longer i (length cs) t m
     counted-now i t m d =
-        record { within = omega (arith, longer-length); counts-for = new-place (λ b x. CountsFor R b x i t m) (length cs) refl .1 d }
+        record { within = omega (arith, longer-length); counts-for = new-place (CountsAs i t m) (length cs) refl .1 d }
 
     pub counted-cases : (i k t : ℕ) (m : Message) → Counted R longer i k t m
         → Counted R cs i k t m ⊎ ((k ≡ length cs) × CountsFor R (summaryOf R cs) c i t m)
     counted-cases i k t m d =
-        by-test (ltb k (length cs))
-        (λ q.
-        let l : k < length cs = ltb-true _ _ q in
-        inl (record { within = l; counts-for = old-place (λ b x. CountsFor R b x i t m) k l .0 (d .counts-for) }))
-        (λ q.
-        let e : k ≡ length cs = omega (arith, longer-length, d .within, ltb-false k (length cs) q) in
-        inr (e, new-place (λ b x. CountsFor R b x i t m) k e .0 (d .counts-for)))
+        ⊎-elim (λ w. inl (record { within = w .0; counts-for = w .1 })) inr (place-cases (CountsAs i t m) k (d .within) (d .counts-for))
 
-    pub no-link-more : (k : ℕ) → (LinkCall R (summaryOf R cs) c → ⊥) → NoLinkAfter R cs k → NoLinkAfter R longer k
-    no-link-more k n u j kj jl h =
-        by-test (ltb j (length cs))
-        (λ q. let l : j < length cs = ltb-true _ _ q in u j kj l (old-place (LinkCall R) j l .0 h))
-        (λ q.
-        let e : j ≡ length cs = omega (arith, longer-length, jl, ltb-false j (length cs) q) in
-        n (new-place (LinkCall R) j e .0 h))
+    -- what counted is what counted before
+    pub record SameCounted (i : ℕ) : Type 0 where
+      pub more : (k t : ℕ) (m : Message) → Counted R cs i k t m → Counted R longer i k t m
+      pub less : (k t : ℕ) (m : Message) → Counted R longer i k t m → Counted R cs i k t m
 
-    pub no-link-less : (k : ℕ) → NoLinkAfter R longer k → NoLinkAfter R cs k
-    no-link-less k u j kj jl h = u j kj (omega (arith, longer-length, jl)) (old-place (LinkCall R) j jl .1 h)
+    pub same-counted : (i : ℕ) → ((t : ℕ) (m : Message) → CountsFor R (summaryOf R cs) c i t m → ⊥) → SameCounted i
+    same-counted i n =
+        record { more = counted-more i; less = λ k t m d. ⊎-elim (λ y. y) (λ w. absurd (n t m (w .1))) (counted-cases i k t m d) }
 
-    pub no-link-now : NoLinkAfter R longer (length cs)
-    no-link-now j kj jl h = omega (arith, longer-length, kj, jl)
+    -- ---- the adding of a tile
 
-    pub link-now : (k : ℕ) → k < length cs → LinkCall R (summaryOf R cs) c → NoLinkAfter R longer k → ⊥
-    link-now k h l u = u (length cs) h (omega (arith, longer-length)) (new-place (LinkCall R) (length cs) refl .1 l)
+    abbrev Adds : ℕ → Entry → Summary → Call → Type 0
+    Adds i e b x = (noteOf x ≡ adding e) × (numberOn R b x ≡ 0) × (firstFree (b .tiles) ≡ i)
 
-    -- where the call does not count for the tile, what counted is what counted before
-    pub none-still : (i : ℕ) → ((t : ℕ) (m : Message) → CountsFor R (summaryOf R cs) c i t m → ⊥) → NoneCounted R cs i → NoneCounted R longer i
-    none-still i n q k t m d = ⊎-elim (q k t m) (λ w. n t m (w .1)) (counted-cases i k t m d)
+    pub added-more : (i j : ℕ) (e : Entry) → AddedAt R cs i j e → AddedAt R longer i j e
+    added-more i j e d =
+        let w = old-place (Adds i e) j (d .within) .1 (d .is, d .accepted, d .number) in
+        record { within = omega (arith, longer-length, d .within); is = w .0; accepted = w .1; number = w .2 }
 
-    pub last-still : (i k last : ℕ) → ((t : ℕ) (m : Message) → CountsFor R (summaryOf R cs) c i t m → ⊥)
-        → ((j t : ℕ) (n : Message) → Counted R cs i j t n → (j ≤ k) × (t ≤ last))
-        → (j t : ℕ) (n : Message) → Counted R longer i j t n → (j ≤ k) × (t ≤ last)
-    last-still i k last n o j t m d = ⊎-elim (o j t m) (λ w. absurd (n t m (w .1))) (counted-cases i j t m d)
+    pub added-now : (i : ℕ) (e : Entry) → noteOf c ≡ adding e → numberOn R (summaryOf R cs) c ≡ 0 → firstFree (summaryOf R cs .tiles) ≡ i
+        → AddedAt R longer i (length cs) e
+    added-now i e n z f =
+        let w = new-place (Adds i e) (length cs) refl .1 (n, z, f) in
+        record { within = omega (arith, longer-length); is = w .0; accepted = w .1; number = w .2 }

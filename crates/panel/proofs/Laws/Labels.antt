@@ -16,7 +16,8 @@ use Rattle.fields.proofs.Laws.Checks.{and-split, or-split}
 use Rattle.fields.proofs.Laws.Text.{is-text, text-unique, textBytes-sized}
 use Rattle.content.specs.Kinds.{transformText, positionText}
 use Rattle.header.specs.Header.{WellTexts}
-use Rattle.history.specs.Summary.{Entry, isOf, isPose, isTileName, isAllowed}
+use Rattle.history.specs.Calls.{Entry}
+use Rattle.history.specs.Summary.{isOf, isPose, isTileName, isAllowed}
 use Rattle.panel.specs.declared.Label.{Label}
 use Rattle.panel.specs.Tiles.{labelOf}
 use Rattle.fields.proofs.Laws.Tests.{by-test}

@@ -25,8 +25,8 @@ use Rattle.panel.specs.declared.LookAnswer.{LookAnswer}
 use Rattle.panel.specs.declared.LookAnswer.the-variants as look-answer
 use Rattle.panel.specs.declared.Value.{Value}
 use Rattle.panel.specs.Calls.{freshPanel, addOf, linkOf, messageOf, lookOf}
-use Rattle.panel.specs.Answers.{addAnswer, lookAnswer}
-use Rattle.panel.specs.Demand3.{answerTo, panelNext, panelAfter}
+use Rattle.panel.specs.Answers.{addAnswer, lookAnswer, Called, addCalled, callCalled}
+use Rattle.panel.specs.Demand3.{called, answerTo, panelNext, panelAfter}
 use Rattle.panel.proofs.Laws.Contents.{bytesOf, PaddedValue, value-padded}
 use Rattle.panel.proofs.Laws.Demand3.{demand-3}
 use Rattle.replay.specs.declared.CallAnswer.{CallAnswer}
@@ -83,14 +83,6 @@ module _ (p : Panel) (c : Call) where
   unfolding performed
   performs-look e q = ap afterLook q ∙ ap (performed p) e
 
-performed-panel : (p : Panel) (c : Call) → performed p c .panel ≡ panelNext p c
-unfolding performed
-performed-panel p (add t n h) = refl
-performed-panel p (linkUp t) = refl
-performed-panel p (linkDown t) = refl
-performed-panel p (message t s) = refl
-performed-panel p (look i now) = refl
-
 add-says : (a : AddAnswer) (v : List ℕ) → saying (addedAs a) v ≡ some (addAnswer a)
 add-says (add-answer.Added i) v = refl
 add-says (add-answer.Refused n) v = refl
@@ -105,41 +97,46 @@ look-says (look-answer.Green a) v = refl
 look-says (look-answer.Grey a) v = refl
 look-says (look-answer.Refused n) v = refl
 
-performed-says : (p : Panel) (c : Call) → saying (performed p c .answered .answer) (bytesOf (performed p c .answered .value)) ≡ some (answerTo p c)
-unfolding performed
-performed-says p (add t n h) = add-says (addOf p t n h .answer) _
-performed-says p (linkUp t) = call-says (eqb (linkOf true p t .number) 0) _ _
-performed-says p (linkDown t) = call-says (eqb (linkOf false p t .number) 0) _ _
-performed-says p (message t s) = call-says (eqb (messageOf p t s .number) 0) _ _
-performed-says p (look i now) = look-says (lookOf p i now .answer) (lookOf p i now .value)
+-- a call performed, and what demand 3 calls it: the panel, the answer, and the value beside it
+record Performs (p : Panel) (q : Performed) (r : Called) : Type 0 where
+  panel : q .panel ≡ r .panel
+  says : saying (q .answered .answer) (bytesOf (q .answered .value)) ≡ some (r .answer)
+  padded : ((i now : ℕ) → PaddedValue (lookOf p i now .value)) → PaddedValue (q .answered .value)
+  no-value : (IsColoured (r .answer) → ⊥) → q .answered .value .len ≡ 0
+
+module _ (p : Panel) where
+  add-performs : (r : AddResult) → Performs p (afterAdd r) (addCalled r)
+  add-performs r = record { panel = refl; says = add-says (r .answer) _; padded = λ h. value-padded [] (omega arith); no-value = λ z. refl }
+
+  call-performs : (r : CallResult) → Performs p (afterCall r) (callCalled r)
+  call-performs r =
+      record { panel = refl; says = call-says (eqb (r .number) 0) _ _; padded = λ h. value-padded [] (omega arith); no-value = λ z. refl }
+
+  performs : (c : Call) → Performs p (performed p c) (called p c)
+  unfolding performed
+  performs (add t n h) = add-performs (addOf p t n h)
+  performs (linkUp t) = call-performs (linkOf true p t)
+  performs (linkDown t) = call-performs (linkOf false p t)
+  performs (message t s) = call-performs (messageOf p t s)
+  performs (look i now) =
+      record {
+        panel = refl;
+        says = look-says (lookOf p i now .answer) (lookOf p i now .value);
+        padded = λ h. h i now;
+        no-value = demand-3 .no-value p i now;
+      }
 
 -- ---- what `Demand3` says of the call c after the calls cs
 
 module _ (cs : List Call) (bytes : Each OfBytes cs) where
-  performed-padded : (c : Call) → PaddedValue (performed (panelAfter cs) c .answered .value)
-  unfolding performed
-  performed-padded (add t n h) = value-padded [] (omega arith)
-  performed-padded (linkUp t) = value-padded [] (omega arith)
-  performed-padded (linkDown t) = value-padded [] (omega arith)
-  performed-padded (message t s) = value-padded [] (omega arith)
-  performed-padded (look i now) = demand-3 .claim (demand-3 .readers .some) cs bytes .padded i now
-
-  performed-empty-value : (c : Call) → (IsColoured (answerTo (panelAfter cs) c) → ⊥) → performed (panelAfter cs) c .answered .value .len ≡ 0
-  unfolding performed
-  performed-empty-value (add t n h) z = refl
-  performed-empty-value (linkUp t) z = refl
-  performed-empty-value (linkDown t) z = refl
-  performed-empty-value (message t s) z = refl
-  performed-empty-value (look i now) z = demand-3 .no-value (panelAfter cs) i now z
-
   performed-answers : (c : Call) → ((R : Reader) → Answers R cs c (answerTo (panelAfter cs) c)) → Says cs c (performed (panelAfter cs) c .answered)
   performed-answers c d =
       record {
         answer = answerTo (panelAfter cs) c;
-        says = performed-says (panelAfter cs) c;
+        says = performs (panelAfter cs) c .says;
         answers = d;
-        padded = performed-padded c;
-        no-value = performed-empty-value c;
+        padded = performs (panelAfter cs) c .padded (demand-3 .claim (demand-3 .readers .some) cs bytes .padded);
+        no-value = performs (panelAfter cs) c .no-value;
       }
 
 -- ---- the call at a place
@@ -199,7 +196,7 @@ ranOn p s = foldl panelNext p (callsIn s)
 -- q is what the first call gives, as the code performs it
 module _ (p : Panel) (s : List ℕ) (h : 0 < length s) {q : Performed} (done : q ≡ performed p (callOf s)) where
   next-panel : panelNext p (callOf s) ≡ q .panel
-  next-panel = sym (ap (λ (x : Performed). x .panel) done ∙ performed-panel p (callOf s))
+  next-panel = sym (ap (λ (x : Performed). x .panel) done ∙ performs p (callOf s) .panel)
 
   pub answer-here : (k : ℕ) → k ≡ 0 → answerAmong k p (callsIn s) ≡ q .answered
   unfolding answerAmong
