@@ -1,12 +1,11 @@
 -- Cases P10 to P12, and the cable, for every message from Arm; and for one byte by byte.
-use Prim.Native.Nat.{ℕ, _≤_}
+use Prim.Native.Nat.{ℕ}
 use mathlib.Core.Path.{_≡_, refl, sym, ap, ap₂, subst, _∙_}
 use mathlib.Core.Logic.{inl}
 use mathlib.Core.Bool.{Bool, true, cond}
 use mathlib.Core.List.{List, [], _∷_, map}
 use native.Mathlib.Omega.{arith}
 use lib.Dec.{eqb}
-use lib.ListN.{length}
 use Rattle.fields.specs.Bytes.{same, sized}
 use Rattle.fields.specs.Lists.{all, any}
 use Rattle.fields.specs.Text.{isText}

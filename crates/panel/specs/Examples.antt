@@ -104,7 +104,7 @@ pub record Examples : Type 0 where
   pub arm-p11 : looked armBytesCalls 1701 ≡ shown grey 501 armContent
   pub arm-p11-before : looked armBytesCalls 1199 ≡ refused 15
   pub arm-p12 : looked (armBytesCalls ++ (linkUp 1400 ∷ [])) 1400 ≡ shown grey 200 armContent
-  -- and the words of demand 3
+  -- and what the history says of it
   pub arm-shown : (R : Reader) → Shown R armBytesCalls 0 1700 (shown green 500 armContent)
   -- of three tiles: a message counts for the one of its type and name, by whose hold time it is judged
   pub counted-for : lookedAll oneCounted (0 ∷ 1 ∷ 2 ∷ 3 ∷ []) 1700 ≡ empty ∷ shown green 500 armContent ∷ empty ∷ refused 19 ∷ []

@@ -43,7 +43,10 @@ module _ (R : Reader) where
       by-zero (numberOn R (summaryOf R cs) c)
       (λ z.
       subst (λ (x : Summary). t ≤ x .link .clock) (sym (book-next R cs c z))
-      (⊎-elim (λ o. omega (arith, clock-rises (summaryOf R cs) c z, K i k t m o)) (λ w. let e = clock-noted (summaryOf R cs) c i t m (w .1) in omega (arith, e)) (counted-cases R cs c i k t m d)))
+      (⊎-elim
+      (λ o. omega (arith, clock-rises (summaryOf R cs) c z, K i k t m o))
+      (λ w. let e = clock-noted (summaryOf R cs) c i t m (w .1) in omega (arith, e))
+      (counted-cases R cs c i k t m d)))
       (λ z.
       subst (λ (x : Summary). t ≤ x .link .clock) (sym (book-kept R cs c z))
       (⊎-elim (K i k t m) (λ w. absurd (z (w .1 .counts))) (counted-cases R cs c i k t m d)))

@@ -2,7 +2,7 @@
 use Prim.Native.Nat.{ℕ, _+_, _<_, _≤_}
 use mathlib.Core.Path.{_≡_, refl, ap, sym, subst, _∙_}
 use mathlib.Core.Logic.{_⊎_, inl, inr, ⊎-elim}
-use mathlib.Core.Bool.{Bool, cond}
+use mathlib.Core.Bool.{Bool, true, false, cond}
 use mathlib.Core.List.{List, [], _∷_, _++_, append-nil, append-assoc, foldl-append}
 use native.Mathlib.Omega.{arith}
 use lib.Dec.{ltb}
@@ -10,7 +10,7 @@ use lib.ListN.{length, length-append, List·getD-append}
 use lib.Seq.{take-append-le, take-append-seam, getD-append-seam}
 use borrow.Author.Tests.{eq-eqb, ne-eqb, ltb-true, ltb-false}
 use Rattle.message.specs.Message.{Message}
-use Rattle.history.specs.Calls.{Call, look, Entry, adding, receiving, noteOf}
+use Rattle.history.specs.Calls.{Call, look, Entry, Note, adding, linking, receiving, nothing, noteOf}
 use Rattle.history.specs.Reading.{oneMessage, Reader}
 use Rattle.history.specs.Places.{firstFree}
 use Rattle.history.specs.Summary.{Summary, noted, numberOn, next, summaryOf, freshSummary}
@@ -25,6 +25,19 @@ by-calls P z s cs = from [] z cs
     from : (done : List Call) → P done → (todo : List Call) → P (done ++ todo)
     from done h [] = subst P (sym (append-nil done)) h
     from done h (c ∷ todo) = subst P (append-assoc done (c ∷ []) todo) (from (done ++ (c ∷ [])) (s done c h) todo)
+
+-- which notes are which
+abbrev pub isReceiving : Note → Bool
+isReceiving (adding e) = false
+isReceiving (linking l) = false
+isReceiving (receiving t s) = true
+isReceiving nothing = false
+
+abbrev pub isLinking : Note → Bool
+isLinking (adding e) = false
+isLinking (linking l) = true
+isLinking (receiving t s) = false
+isLinking nothing = false
 
 -- a call is one message
 pub same-received : (R : Reader) (t u : ℕ) (x y : List ℕ) (m n : Message) → receiving t x ≡ receiving u y → R .read x ≡ oneMessage m → R .read y ≡ oneMessage n

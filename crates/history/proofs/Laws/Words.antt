@@ -2,7 +2,7 @@
 use Prim.Native.Nat.{ℕ, _-_, _≤_}
 use mathlib.Core.Path.{_≡_, refl, sym, ap, ap₂, subst, _∙_}
 use mathlib.Core.Logic.{⊎-elim}
-use mathlib.Core.Bool.{Bool, true, false, false≢true}
+use mathlib.Core.Bool.{false≢true}
 use mathlib.Core.List.{List, []}
 use mathlib.Core.Option.{Option, none, some}
 use native.Mathlib.Omega.{arith}
@@ -18,7 +18,7 @@ use Rattle.history.specs.Summary.{Summary, tileAt, carries, noted, numbe
 use Rattle.history.specs.History.{callAt, valueFor, IsColour, NoneCounted, OfLast, Shown, Accepted, Answers}
 use Rattle.history.specs.Words.{AfterAdding, Words}
 use Rattle.history.proofs.Laws.Places.{filled-at, free-at, NoGaps, filled-no-gaps, free-count}
-use Rattle.history.proofs.Laws.Longer.{by-calls, longer, book-next, book-kept, same-received, counted-cases, added-more, added-now}
+use Rattle.history.proofs.Laws.Longer.{by-calls, isReceiving, longer, book-next, book-kept, same-received, counted-cases, added-more, added-now}
 
 -- ---- one answer
 
@@ -71,12 +71,6 @@ module _ (R : Reader) (cs : List Call) (a b : Answer) where
       (λ n. x .refusal n ∙ sym (y .refusal n))
 
 -- ---- after the adding
-
-abbrev isReceiving : Note → Bool
-isReceiving (adding e) = false
-isReceiving (linking l) = false
-isReceiving (receiving t s) = true
-isReceiving nothing = false
 
 module _ (R : Reader) (i : ℕ) where
   -- of what the book has under the number i

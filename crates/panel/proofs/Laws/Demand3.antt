@@ -5,7 +5,6 @@ use mathlib.Core.Path.{_≡_, refl, ap, sym, subst, _∙_}
 use mathlib.Core.Bool.{Bool, true, false, cond, _&&_}
 use mathlib.Core.List.{List, [], _∷_, _++_, foldl-append}
 use mathlib.Core.Option.{Option, none, some}
-use native.Mathlib.Omega.{arith}
 use lib.Dec.{eqb, leb}
 use lib.ListN.{length, take, getD}
 use lib.Seq.{take-append-seam}
@@ -30,7 +29,7 @@ use Rattle.panel.specs.Tiles.{noValue, noTile}
 use Rattle.panel.specs.Calls.{freshPanel, lookFault, lookedAt, refusedLook, lookOf}
 use Rattle.panel.specs.Answers.{lookAnswer}
 use Rattle.panel.specs.Demand3.{answerTo, panelNext, panelAfter, Demand3}
-use Rattle.panel.proofs.Laws.Contents.{bytesOf, PaddedValue, value-padded}
+use Rattle.panel.proofs.Laws.Contents.{bytesOf, PaddedValue, value-padded, no-value-padded}
 use Rattle.panel.proofs.Laws.Calls.{look-refused, look-accepted}
 use Rattle.panel.proofs.Laws.Rows.{refused-kept, panel-same}
 use Rattle.panel.proofs.Laws.Agreement.{LastAgrees, TileAgrees, Agrees, fresh-agrees}
@@ -69,7 +68,7 @@ module _ (p : Panel) (m : Room) (T : Agrees p m) where
   last-padded : (counted : Bool) (clock : ℕ) (value : Value) (l : Option Received) → LastAgrees counted clock value l
       → PaddedValue (cond counted value noValue)
   last-padded counted clock value none a =
-      subst PaddedValue (sym (ap (λ (t : Bool). cond t value noValue) a)) (value-padded [] (omega arith))
+      subst PaddedValue (sym (ap (λ (t : Bool). cond t value noValue) a)) no-value-padded
   last-padded counted clock value (some h) a =
       subst PaddedValue (sym (ap (λ (t : Bool). cond t value noValue) (a .counted) ∙ a .value)) (value-padded (h .value) (a .short))
 
@@ -81,7 +80,7 @@ module _ (p : Panel) (m : Room) (T : Agrees p m) where
   unfolding lookOf
   look-padded i now =
       cond-cases (λ (r : LookResult). PaddedValue (r .value)) (eqb (lookFault p i now) 0) (lookedAt p (getD (p .tiles) i noTile) now)
-      (refusedLook p (lookFault p i now)) (λ q. tile-padded _ (roomAt m i) (T .places i)) (λ q. value-padded [] (omega arith))
+      (refusedLook p (lookFault p i now)) (λ q. tile-padded _ (roomAt m i) (T .places i)) (λ q. no-value-padded)
 
 -- ---- no colour, no value
 

@@ -1,4 +1,4 @@
--- Each call on the panel does what it does to the room.
+-- A call on a panel that agrees with a room gives what it gives on the room, and leaves the two in agreement.
 use Prim.Native.Nat.{ℕ, _-_, _<_}
 use mathlib.Core.Path.{_≡_, refl, ap, ap₂, sym, subst, _∙_}
 use mathlib.Core.Logic.{inl, inr, ⊎-elim}
@@ -126,7 +126,7 @@ module _ (now : ℕ) where
 
 module _ (R : Reader) (p : Panel) (m : Room) (T : Agrees p m) where
   -- the panel's row of a call is what the room does
-  record Does (c : Call) : Type 0 where
+  record CallAgrees (c : Call) : Type 0 where
     fault : row p c .fault ≡ numberOn R (bookOf m) c
     panel : numberOn R (bookOf m) c ≡ 0 → Agrees (row p c .panel) (changed R m (noteOf c))
     answer : numberOn R (bookOf m) c ≡ 0 → row p c .answer ≡ answered R m c
@@ -221,35 +221,35 @@ module _ (R : Reader) (p : Panel) (m : Room) (T : Agrees p m) where
       look-agrees now p _ (roomAt m i)
       (ap isThere (sym (changed-at entryOf (m .tiles) i)) ∙ cond-pass (isThere (tileAt (bookOf m) i)) 18 0 (y .0) .0) (T .places i)
 
-  does : (c : Call) → OfBytes c → Does c
-  does (add t n h) o =
+  call-agrees : (c : Call) → OfBytes c → CallAgrees c
+  call-agrees (add t n h) o =
       record { fault = add-same p m T R t n h; panel = add-agrees t n h; answer = λ z. ap added (free-same p m T) }
-  does (linkUp t) o = record { fault = clock-same p m T t; panel = λ z. link-agrees true t; answer = λ z. refl }
-  does (linkDown t) o = record { fault = clock-same p m T t; panel = λ z. link-agrees false t; answer = λ z. refl }
-  does (message t s) o = record { fault = message-same p m T R t s o; panel = message-agrees t s o; answer = λ z. refl }
-  does (look i now) o = record { fault = look-same p m T R i now; panel = λ z. T; answer = look-answered i now }
+  call-agrees (linkUp t) o = record { fault = clock-same p m T t; panel = λ z. link-agrees true t; answer = λ z. refl }
+  call-agrees (linkDown t) o = record { fault = clock-same p m T t; panel = λ z. link-agrees false t; answer = λ z. refl }
+  call-agrees (message t s) o = record { fault = message-same p m T R t s o; panel = message-agrees t s o; answer = λ z. refl }
+  call-agrees (look i now) o = record { fault = look-same p m T R i now; panel = λ z. T; answer = look-answered i now }
 
   -- ---- the panel after it, and the answer
 
   module _ (c : Call) (o : OfBytes c) where
-    abbrev D : Does c
-    D = does c o
+    abbrev agreed : CallAgrees c
+    agreed = call-agrees c o
 
     pub step : Agrees (panelNext p c) (roomNext R m c)
     step =
         by-zero (numberOn R (bookOf m) c)
         (λ z.
-        subst (λ (q : Panel). Agrees q (roomNext R m c)) (sym (panel-changed p c (D .fault ∙ z)))
-        (subst (Agrees (row p c .panel)) (sym (room-accepted R m c z)) (D .panel z)))
+        subst (λ (q : Panel). Agrees q (roomNext R m c)) (sym (panel-changed p c (agreed .fault ∙ z)))
+        (subst (Agrees (row p c .panel)) (sym (room-accepted R m c z)) (agreed .panel z)))
         (λ z.
-        subst (λ (q : Panel). Agrees q (roomNext R m c)) (sym (panel-refused p c (λ y. z (sym (D .fault) ∙ y))))
+        subst (λ (q : Panel). Agrees q (roomNext R m c)) (sym (panel-refused p c (λ y. z (sym (agreed .fault) ∙ y))))
         (subst (Agrees p) (sym (room-refused R m c z)) T))
 
     pub same-answer : answerTo p c ≡ roomAnswer R m c
     same-answer =
         let chosen : Bool → Answer = λ t. cond t (answered R m c) (refused (numberOn R (bookOf m) c)) in
         by-zero (numberOn R (bookOf m) c)
-        (λ z. answer-accepted p c (D .fault ∙ z) ∙ D .answer z ∙ sym (ap chosen (eq-eqb (numberOn R (bookOf m) c) 0 z)))
+        (λ z. answer-accepted p c (agreed .fault ∙ z) ∙ agreed .answer z ∙ sym (ap chosen (eq-eqb (numberOn R (bookOf m) c) 0 z)))
         (λ z.
-        answer-refused p c (λ y. z (sym (D .fault) ∙ y)) ∙ ap refused (D .fault)
+        answer-refused p c (λ y. z (sym (agreed .fault) ∙ y)) ∙ ap refused (agreed .fault)
         ∙ sym (ap chosen (ne-eqb (numberOn R (bookOf m) c) 0 z)))

@@ -27,7 +27,7 @@ use Rattle.panel.specs.declared.Value.{Value}
 use Rattle.panel.specs.Calls.{freshPanel, addOf, linkOf, messageOf, lookOf}
 use Rattle.panel.specs.Answers.{addAnswer, lookAnswer, Called, addCalled, callCalled}
 use Rattle.panel.specs.Demand3.{called, answerTo, panelNext, panelAfter}
-use Rattle.panel.proofs.Laws.Contents.{bytesOf, PaddedValue, value-padded}
+use Rattle.panel.proofs.Laws.Contents.{bytesOf, PaddedValue, no-value-padded}
 use Rattle.panel.proofs.Laws.Demand3.{demand-3}
 use Rattle.replay.specs.declared.CallAnswer.{CallAnswer}
 use Rattle.replay.specs.declared.CallAnswer.the-variants.{Accepted, Refused}
@@ -97,7 +97,7 @@ look-says (look-answer.Green a) v = refl
 look-says (look-answer.Grey a) v = refl
 look-says (look-answer.Refused n) v = refl
 
--- a call performed, and what demand 3 calls it: the panel, the answer, and the value beside it
+-- a call as it is performed, and as `Demand3` has it: the panel, the answer, and the value beside it
 record Performs (p : Panel) (q : Performed) (r : Called) : Type 0 where
   panel : q .panel ≡ r .panel
   says : saying (q .answered .answer) (bytesOf (q .answered .value)) ≡ some (r .answer)
@@ -106,11 +106,11 @@ record Performs (p : Panel) (q : Performed) (r : Called) : Type 0 where
 
 module _ (p : Panel) where
   add-performs : (r : AddResult) → Performs p (afterAdd r) (addCalled r)
-  add-performs r = record { panel = refl; says = add-says (r .answer) _; padded = λ h. value-padded [] (omega arith); no-value = λ z. refl }
+  add-performs r = record { panel = refl; says = add-says (r .answer) _; padded = λ h. no-value-padded; no-value = λ z. refl }
 
   call-performs : (r : CallResult) → Performs p (afterCall r) (callCalled r)
   call-performs r =
-      record { panel = refl; says = call-says (eqb (r .number) 0) _ _; padded = λ h. value-padded [] (omega arith); no-value = λ z. refl }
+      record { panel = refl; says = call-says (eqb (r .number) 0) _ _; padded = λ h. no-value-padded; no-value = λ z. refl }
 
   performs : (c : Call) → Performs p (performed p c) (called p c)
   unfolding performed

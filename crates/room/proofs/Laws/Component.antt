@@ -2,7 +2,7 @@
 -- then it holds of every tile after any calls.
 use Prim.Native.Nat.{ℕ}
 use mathlib.Core.Path.{_≡_, refl, ap, ap₂, sym, subst, _∙_}
-use mathlib.Core.Bool.{Bool, true, false, cond, false≢true}
+use mathlib.Core.Bool.{Bool, false, cond, false≢true}
 use mathlib.Core.List.{List, [], _∷_, foldl-append}
 use mathlib.Core.Option.{Option, none, some, Option·map}
 use native.Mathlib.Omega.{arith}
@@ -16,21 +16,9 @@ use Rattle.history.specs.Reading.{Reading, noMessage, leftOver, oneMessage, Rea
 use Rattle.history.specs.Summary.{Summary, tileAt, carries, noted, numberOn, summaryOf}
 use Rattle.history.specs.History.{CountsFor, LinkCall, NoneCounted}
 use Rattle.history.proofs.Laws.Places.{changedEach, filled-at, free-at, changed-at, changed-filled}
-use Rattle.history.proofs.Laws.Longer.{by-calls, longer, book-next, book-kept, SameCounted, same-counted}
+use Rattle.history.proofs.Laws.Longer.{by-calls, isReceiving, isLinking, longer, book-next, book-kept, SameCounted, same-counted}
 use Rattle.history.proofs.Laws.Words.{none-counted}
 use Rattle.room.proofs.Laws.Room.{RoomTile, Room, freshRoom, roomAt, entryOf, bookOf, newTile, relinked, countedTile, countedBy, changed, roomNext, roomAfter}
-
-abbrev isReceiving : Note → Bool
-isReceiving (adding e) = false
-isReceiving (linking l) = false
-isReceiving (receiving t s) = true
-isReceiving nothing = false
-
-abbrev isLinking : Note → Bool
-isLinking (adding e) = false
-isLinking (linking l) = true
-isLinking (receiving t s) = false
-isLinking nothing = false
 
 -- a change that leaves each tile its entry
 same-entries : (f : RoomTile → RoomTile) → ((x : RoomTile) → f x .entry ≡ x .entry) → (ts : List (Option RoomTile))

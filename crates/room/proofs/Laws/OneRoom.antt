@@ -1,4 +1,4 @@
--- Demand 3 of one room: after any calls it answers each call by the book and the history.
+-- Rules 1.7, 1.8 and 7.10 of one room: after any calls it answers each call by the book and the history.
 use Prim.Native.Nat.{ℕ, _-_, _≤_}
 use mathlib.Core.Path.{_≡_, refl, ap, sym, subst, _∙_}
 use mathlib.Core.Logic.{inl, inr}
