@@ -50,7 +50,7 @@ linkedPanel = panelAfter (add transformText armText 500 ∷ linkUp 1000 ∷ [])
 
 -- a panel after a message from Arm with this clock and value
 abbrev countedPanel : Panel → ℕ → Value → Panel
-countedPanel p t v = record { tiles = map (countedFor arm t v) (p .tiles); link = record { up = true; clock = t } }
+countedPanel p t v = record { tiles = map (countedFor arm t v) (p .tiles); link = record { up = p .link .up; clock = t } }
 
 -- a panel on which such a message counts
 record Counts (p : Panel) (t : ℕ) : Type 0 where
@@ -86,7 +86,7 @@ module _ (m : Message) (f : FromArm m) where
     counted-panel : panelNext p (message t (encode m)) ≡ countedPanel p t (valueOf value)
     counted-panel =
         panel-changed p (message t (encode m)) message-fault
-        ∙ ap₂ (λ (l : Label) (v : Value). record { tiles = map (countedFor l t v) (p .tiles); link = record { up = true; clock = t } })
+        ∙ ap₂ (λ (l : Label) (v : Value). record { tiles = map (countedFor l t v) (p .tiles); link = record { up = p .link .up; clock = t } })
         label-is (begun-value (encode m) m (armTile 500) front)
 
     -- what a look shows after it and the next calls

@@ -204,7 +204,7 @@ module _ (R : Reader) (p : Panel) (m : Room) (T : Agrees p m) where
       let u = zero-else (cond (m .link .up) 0 14) _ (y .1) in
       let n = one-of s (bookOf m .tiles) (R .read s) bs (R .reads s bs) (u .1) in
       record {
-        link = record { up = sym (cond-pass (m .link .up) 13 0 (u .0) .0); clock = refl };
+        link = record { up = T .link .up; clock = refl };
         size = length-map (p .tiles) (countedFor (labelIn s (readOf s)) t (valueIn s (readOf s))) ∙ T .size;
         places =
             changed-agree (countedFor (labelIn s (readOf s)) t (valueIn s (readOf s))) (countedBy t (R .read s)) refl
