@@ -1,10 +1,10 @@
--- `panel::Panel::judged` meets its contract: the laws of its checks in turn, and of bytes that are read.
+-- `panel::judge` meets its contract: the laws of its checks in turn, and of bytes that are read.
 use mathlib.Core.Path.{_∙_}
 use borrow.Author.Tests.{not-true, not-false}
 use borrow.Author.Needs.{needs}
 use Rattle.panel.proofs.Laws.Calls.{judged-late, judged-down, judged-read}
-use Rattle.panel.proofs.Panel.judged.Statement.{statement}
-use Rattle.panel.proofs.Panel.judged.Tie as tie
+use Rattle.panel.proofs.judge.Statement.{statement}
+use Rattle.panel.proofs.judge.Tie as tie
 
 unread-requires : tie.Need-unread-requires
 unread-requires c κs = search needs
@@ -12,7 +12,7 @@ unread-requires c κs = search needs
 returns : tie.Need-returns
 returns c =
     let a = c .before .before .before .before .args in
-    c .unread .ensures ∙ judged-late (a .self) (a .clock) (a .bytes .now) (c .before .if1 .taken)
+    c .unread .ensures ∙ judged-late (a .link) (a .clock) (a .bytes .now) (c .before .if1 .taken)
 
 unread-requires-2 : tie.Need-unread-requires-2
 unread-requires-2 c κs = search needs
@@ -21,7 +21,7 @@ returns-2 : tie.Need-returns-2
 returns-2 c =
     let a = c .before .before .before .before .before .before .args in
     c .unread2 .ensures
-    ∙ judged-down (a .self) (a .clock) (a .bytes .now) (c .before .before .before .if1 .left) (not-true (a .self .link .up) (c .before .if2 .taken))
+    ∙ judged-down (a .link) (a .clock) (a .bytes .now) (c .before .before .before .if1 .left) (not-true (a .link .up) (c .before .if2 .taken))
 
 read-requires : tie.Need-read-requires
 read-requires c κs = search needs
@@ -33,11 +33,11 @@ returns-3 : tie.Need-returns-3
 returns-3 c =
     let d = c .before .before in
     let a = d .before .before .before .before .before .args in
-    judged-read (a .self) (a .clock) (a .bytes .now) (d .before .before .if1 .left) (not-false (a .self .link .up) (d .if2 .left))
+    judged-read (a .link) (a .clock) (a .bytes .now) (d .before .before .if1 .left) (not-false (a .link .up) (d .if2 .left))
     _ (c .before .read .ensures) _ (c .bytes-fault .ensures)
 
-pub judged-spec : {M : Type 1} → statement M
-judged-spec =
+pub judge-spec : {M : Type 1} → statement M
+judge-spec =
     tie.close
     (tie.spec
     unread-requires
