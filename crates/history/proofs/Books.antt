@@ -71,6 +71,8 @@ module _ (R : Reader) where
         linked = refl;
         counted = rw (r .arm) refl;
         refused = rw (r .damaged, r .more) refl;
+        refused-down = refl;
+        refused-unknown = rw (r .arm) refl;
         arm = rw (r .arm) refl;
         after = rw (r .arm) refl;
         gaps = rw (r .arm) refl;

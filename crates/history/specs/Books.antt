@@ -127,6 +127,9 @@ module _ (R : Reader) where
         ∷ look 1 1300
         ∷ [])
         ≡ replicate 7 (bookOf armTiles true 1200)
+    -- 14; 13
+    pub refused-down : next R (bookOf armTiles false 1200) (message 1300 armBytes) ≡ bookOf armTiles false 1200
+    pub refused-unknown : next R (bookOf [] true 1200) (message 1300 armBytes) ≡ bookOf [] true 1200
     -- the book after a sequence of calls
     pub arm : summaryOf R armCalls ≡ bookOf armTiles true 1200
     -- a message while the link is down, an add, a link up, a message, a look, another add

@@ -20,7 +20,7 @@ use Rattle.message.specs.declared.Answer.{Answer as Read}
 use Rattle.message.specs.Samples.{armMessage, armBytes, armAnswer, armContent, zeroBytes, zeroAnswer}
 use Rattle.message.proofs.Samples.{samples}
 use Rattle.message.proofs.Laws.Messages.{demand-2}
-use Rattle.history.specs.Calls.{add, linkUp, linkDown, message, look, green, grey, Answer, refused, shown}
+use Rattle.history.specs.Calls.{add, linkUp, linkDown, message, look, green, grey, Answer, refused, empty, shown}
 use Rattle.history.specs.Summary.{Summary, isAllowed, allowedFault, clockFault, numberOn}
 use Rattle.history.specs.History.{valueFor, Shown}
 use Rattle.history.proofs.Books.{books}
@@ -37,7 +37,6 @@ use Rattle.panel.specs.Examples.{armText, FromArm, armTile, armBytesCall
 use Rattle.panel.proofs.Laws.Calls.{message-accepted, read-whole}
 use Rattle.history.proofs.Laws.Readings.{begins-one, one-step}
 use Rattle.panel.proofs.Laws.Contents.{bytesOf, pose-short, value-bytes}
-use Rattle.panel.proofs.Laws.Rows.{panel-changed}
 use Rattle.panel.proofs.Laws.Checked.{begun-label, begun-value}
 use Rattle.panel.proofs.Laws.Demand3.{demand-3}
 
@@ -85,7 +84,7 @@ module _ (m : Message) (f : FromArm m) where
 
     counted-panel : panelNext p (message t (encode m)) ≡ countedPanel p t (valueOf value)
     counted-panel =
-        panel-changed p (message t (encode m)) message-fault
+        ap (λ (r : CallResult). r .panel) (sym (message-accepted p t (encode m) message-fault))
         ∙ ap₂ (λ (l : Label) (v : Value). record { tiles = map (countedFor l t v) (p .tiles); link = record { up = p .link .up; clock = t } })
         label-is (begun-value (encode m) m (armTile 500) front)
 
@@ -156,6 +155,11 @@ twoPanel = messageRead onePanel 1300 zeroBytes zeroAnswer .panel
 abbrev onPanel : List ℕ → ℕ → Panel → List Answer
 onPanel tiles now p = map (λ i. answerTo p (look i now)) tiles
 
+-- a message on a link that is down is not read
+down-sent : answerTo (panelAfter (add transformText armText 500 ∷ message 1500 armBytes ∷ [])) (look 0 0) ≡ empty
+unfolding panelAfter addOf addFault messageOf messageFault allowedFault isAllowed clockFault lookOf lookFault same sized any isText all
+down-sent = refl
+
 pub examples : Examples
 unfolding panelAfter addOf addFault linkOf readFault allowedFault isAllowed clockFault lookOf lookFault same sized any isText all
 examples =
@@ -181,11 +185,6 @@ examples =
       arm-p11 = ap (λ (p : Panel). answerTo p (look 0 1701)) arm-panel;
       arm-p11-before = ap (λ (p : Panel). answerTo p (look 0 1199)) arm-panel;
       arm-p12 = ap (λ (p : Panel). answerTo (panelNext p (linkUp 1400)) (look 0 1400)) arm-panel;
-      -- the look is not refused by the book, so it shows what the history says
-      arm-shown = λ R.
-          subst (Shown R armBytesCalls 0 1700) (ap (λ (p : Panel). answerTo p (look 0 1700)) arm-panel)
-          (demand-3 .claim R armBytesCalls (tt, (tt, (books .calls .1 .1 .0, tt))) .after 0 1700 .acceptance
-          (ap (λ (b : Summary). numberOn R b (look 0 1700)) (books .on-books R .arm)));
       counted-for = ap (onPanel (0 ∷ 1 ∷ 2 ∷ 3 ∷ []) 1700) one-panel;
       counted-older = ap (onPanel (0 ∷ 1 ∷ 2 ∷ []) 1701) one-panel;
       counted-long-ago = ap (λ (p : Panel). onPanel (1 ∷ []) 4294968497 p ∷ onPanel (1 ∷ []) 0xFFFFFFFFFFFFFFFF p ∷ []) one-panel;
@@ -195,6 +194,10 @@ examples =
           ap (λ (p : Panel). onPanel (1 ∷ []) 1500 (messageOf (panelNext p (linkUp 1400)) 1500 armBytes .panel)) two-panel
           ∙ ap (λ (r : CallResult). onPanel (1 ∷ []) 1500 (r .panel)) (arm-sent (panelNext twoPanel (linkUp 1400)) 1500);
       green-kept = ap (λ (p : Panel). onPanel (1 ∷ 3 ∷ []) 1400 (panelNext (panelNext p (add positionText (65 ∷ []) 1)) (linkDown 1299))) two-panel;
+      refused-message = down-sent;
+      unknown-message =
+          ap (λ (r : CallResult). onPanel (0 ∷ []) 1200 (r .panel))
+          (arm-sent (panelAfter (add transformText (65 ∷ []) 500 ∷ linkUp 1000 ∷ [])) 1500);
       at-zero =
           ap (λ (r : CallResult). onPanel (0 ∷ []) 0 (r .panel))
           (arm-sent (panelAfter (add transformText armText 500 ∷ linkUp 0 ∷ [])) 0);
@@ -213,4 +216,9 @@ examples =
       add-answers = refl;
       look-answers = refl;
       short-value = refl;
+      -- the look is not refused by the book, so it shows what the history says
+      arm-shown = λ R.
+          subst (Shown R armBytesCalls 0 1700) (ap (λ (p : Panel). answerTo p (look 0 1700)) arm-panel)
+          (demand-3 .claim R armBytesCalls (tt, (tt, (books .calls .1 .1 .0, tt))) .after 0 1700 .acceptance
+          (ap (λ (b : Summary). numberOn R b (look 0 1700)) (books .on-books R .arm)));
     }

@@ -29,16 +29,18 @@ lookAnswer (looked.Green a) v = shown green a (valueBytes (v .bytes) (v .len))
 lookAnswer (looked.Grey a) v = shown grey a (valueBytes (v .bytes) (v .len))
 lookAnswer (looked.Refused n) v = refused n
 
--- what a call gives: the panel, and its answer in these words
+-- what a call returns, by its type
+pub data Result : Type 0 where
+  ofAdd : AddResult → Result
+  ofCall : CallResult → Result
+  ofLook : LookResult → Result
+
+-- the panel that it has, and the answer in these words
 pub record Called : Type 0 where
   pub panel : Panel
   pub answer : Answer
 
-abbrev pub addCalled : AddResult → Called
-addCalled r = record { panel = r .panel; answer = addAnswer (r .answer) }
-
-abbrev pub callCalled : CallResult → Called
-callCalled r = record { panel = r .panel; answer = callAnswer (r .number) }
-
-abbrev pub lookCalled : LookResult → Called
-lookCalled r = record { panel = r .panel; answer = lookAnswer (r .answer) (r .value) }
+abbrev pub calledBy : Result → Called
+calledBy (ofAdd r) = record { panel = r .panel; answer = addAnswer (r .answer) }
+calledBy (ofCall r) = record { panel = r .panel; answer = callAnswer (r .number) }
+calledBy (ofLook r) = record { panel = r .panel; answer = lookAnswer (r .answer) (r .value) }

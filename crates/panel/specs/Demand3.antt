@@ -10,22 +10,23 @@ use Rattle.history.specs.Reading.{Reader, Readers}
 use Rattle.history.specs.History.{callAt, IsColoured, Answers}
 use Rattle.history.specs.Words.{Words}
 use Rattle.panel.specs.declared.Panel.{Panel}
-use Rattle.panel.specs.Answers.{Called, addCalled, callCalled, lookCalled}
+use Rattle.panel.specs.Answers.{Result, ofAdd, ofCall, ofLook, calledBy}
 use Rattle.panel.specs.Calls.{freshPanel, addOf, linkOf, messageOf, lookOf}
 
--- what a call on a panel gives: its answer, and the panel
-abbrev pub called : Panel → Call → Called
-called p (add t n h) = addCalled (addOf p t n h)
-called p (linkUp t) = callCalled (linkOf true p t)
-called p (linkDown t) = callCalled (linkOf false p t)
-called p (message t s) = callCalled (messageOf p t s)
-called p (look i now) = lookCalled (lookOf p i now)
+-- what a call on a panel returns
+abbrev pub resultOf : Panel → Call → Result
+resultOf p (add t n h) = ofAdd (addOf p t n h)
+resultOf p (linkUp t) = ofCall (linkOf true p t)
+resultOf p (linkDown t) = ofCall (linkOf false p t)
+resultOf p (message t s) = ofCall (messageOf p t s)
+resultOf p (look i now) = ofLook (lookOf p i now)
 
+-- its answer, and the panel that it gives back
 abbrev pub answerTo : Panel → Call → Answer
-answerTo p c = called p c .answer
+answerTo p c = calledBy (resultOf p c) .answer
 
 abbrev pub panelNext : Panel → Call → Panel
-panelNext p c = called p c .panel
+panelNext p c = calledBy (resultOf p c) .panel
 
 -- from a fresh panel on, each call gets the panel that the last one gave back
 unfoldable pub panelAfter : List Call → Panel

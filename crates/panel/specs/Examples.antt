@@ -104,8 +104,6 @@ pub record Examples : Type 0 where
   pub arm-p11 : looked armBytesCalls 1701 ≡ shown grey 501 armContent
   pub arm-p11-before : looked armBytesCalls 1199 ≡ refused 15
   pub arm-p12 : looked (armBytesCalls ++ (linkUp 1400 ∷ [])) 1400 ≡ shown grey 200 armContent
-  -- and what the history says of it
-  pub arm-shown : (R : Reader) → Shown R armBytesCalls 0 1700 (shown green 500 armContent)
   -- of three tiles: a message counts for the one of its type and name, by whose hold time it is judged
   pub counted-for : lookedAll oneCounted (0 ∷ 1 ∷ 2 ∷ 3 ∷ []) 1700 ≡ empty ∷ shown green 500 armContent ∷ empty ∷ refused 19 ∷ []
   pub counted-older : lookedAll oneCounted (0 ∷ 1 ∷ 2 ∷ []) 1701 ≡ empty ∷ shown grey 501 armContent ∷ empty ∷ []
@@ -119,6 +117,9 @@ pub record Examples : Type 0 where
   pub green-again : lookedAll (twoCounted ++ (linkUp 1400 ∷ message 1500 armBytes ∷ [])) (1 ∷ []) 1500 ≡ shown green 0 armContent ∷ []
   pub green-kept : lookedAll (twoCounted ++ (add positionText (65 ∷ []) 1 ∷ linkDown 1299 ∷ [])) (1 ∷ 3 ∷ []) 1400
       ≡ shown green 100 (replicate 48 0) ∷ empty ∷ []
+  -- a refused message moves no clock: 14; 13
+  pub refused-message : looked (add transformText armText 500 ∷ message 1500 armBytes ∷ []) 0 ≡ empty
+  pub unknown-message : lookedAll (add transformText (65 ∷ []) 500 ∷ linkUp 1000 ∷ message 1500 armBytes ∷ []) (0 ∷ []) 1200 ≡ empty ∷ []
   -- all at clock 0
   pub at-zero : lookedAll (add transformText armText 500 ∷ linkUp 0 ∷ message 0 armBytes ∷ []) (0 ∷ []) 0 ≡ shown green 0 armContent ∷ []
   -- the same in the code's words: three adds; a link call; the message; looks
@@ -143,3 +144,5 @@ pub record Examples : Type 0 where
       ≡ empty ∷ shown green 500 (1 ∷ 2 ∷ 3 ∷ []) ∷ shown grey 501 (1 ∷ 2 ∷ 3 ∷ []) ∷ refused 19 ∷ []
   -- a value of three bytes, as a tile keeps it
   pub short-value : valueOf (1 ∷ 2 ∷ 3 ∷ []) ≡ threeBytes
+  -- what the history says of P10
+  pub arm-shown : (R : Reader) → Shown R armBytesCalls 0 1700 (shown green 500 armContent)

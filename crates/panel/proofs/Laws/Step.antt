@@ -39,9 +39,10 @@ use Rattle.panel.specs.declared.Panel.{Panel}
 use Rattle.panel.specs.declared.LookAnswer.the-variants.{Empty, Green, Grey}
 use Rattle.panel.specs.Tiles.{noValue, labelOf, noTile, newTile, isTile, relinked, countedTile, countedFor, colourOf, freeIn}
 use Rattle.panel.specs.Calls.{labelIn, valueIn, entered, linked, received, lookedAt}
-use Rattle.panel.specs.Answers.{lookAnswer, lookCalled}
+use Rattle.panel.specs.Answers.{lookAnswer}
 use Rattle.panel.specs.Demand3.{answerTo, panelNext}
 use Rattle.panel.proofs.Laws.Labels.{IsPose, allowed}
+use Rattle.panel.proofs.Laws.Calls.{lookWords}
 use Rattle.panel.proofs.Laws.Contents.{bytesOf, pose-short, value-bytes}
 use Rattle.panel.proofs.Laws.Rows.{row, panel-refused, panel-changed, answer-refused, answer-accepted}
 use Rattle.panel.proofs.Laws.Agreement.{LastAgrees, TileAgrees, Agrees, place-used, place-is, changed-agree}
@@ -116,7 +117,7 @@ module _ (now : ℕ) where
       ∙ ap (shown (cond (since && leb (now - h .clock) hold) green grey) (now - h .clock)) (value-bytes (h .value) (a .short))
 
   look-agrees : (p : Panel) (x : Tile) (o : Option RoomTile) → isThere (Option·map entryOf o) ≡ true → TileAgrees x o
-      → lookCalled (lookedAt p x now) .answer ≡ shownBy o now
+      → lookWords (lookedAt p x now) ≡ shownBy o now
   look-agrees p x none h a = true-false false h refl
   look-agrees p x (some y) h a =
       ap₂ (λ (q : Bool) (k : ℕ). shownFrom (x .counted) q (x .clock) k (x .value)) (a .since) (a .entry .hold)
