@@ -1,12 +1,12 @@
 -- What running a script gives: by the panel's definitions, and by the book and the history (rules 1.7 to 1.9 and 7.10).
 use Prim.Native.Nat.{ℕ, zero, suc, _<_, _≤_}
 use mathlib.Core.Path.{_≡_}
-use mathlib.Core.Bool.{true, false, cond}
+use mathlib.Core.Bool.{cond}
 use mathlib.Core.List.{List, [], _∷_}
 use mathlib.Core.Option.{Option, none, some}
 use lib.Dec.{eqb}
 use lib.ListN.{length, take}
-use Rattle.history.specs.Calls.{Call, add, linkUp, linkDown, message, look, green, grey, Answer, refused, accepted, added, empty, shown, valueBytes, Padded}
+use Rattle.history.specs.Calls.{Call, look, green, grey, Answer, refused, accepted, added, empty, shown, valueBytes, Padded}
 use Rattle.history.specs.Reading.{Reader}
 use Rattle.history.specs.History.{callAt, IsColoured, Answers}
 use Rattle.panel.specs.declared.Panel.{Panel}
@@ -18,8 +18,9 @@ use Rattle.panel.specs.declared.LookResult.{LookResult}
 use Rattle.panel.specs.declared.LookAnswer.{LookAnswer}
 use Rattle.panel.specs.declared.LookAnswer.the-variants as look-answer
 use Rattle.panel.specs.Tiles.{noValue}
-use Rattle.panel.specs.Calls.{freshPanel, addOf, linkOf, messageOf, lookOf}
-use Rattle.panel.specs.Demand3.{panelNext, panelAfter}
+use Rattle.panel.specs.Calls.{freshPanel, lookOf}
+use Rattle.panel.specs.Answers.{Result, ofAdd, ofCall, ofLook}
+use Rattle.panel.specs.Demand3.{resultOf, panelNext, panelAfter}
 use Rattle.replay.specs.declared.CallAnswer.{CallAnswer}
 use Rattle.replay.specs.declared.CallAnswer.the-variants.{Accepted, Added, Empty, Green, Grey, Refused, NoCall}
 use Rattle.replay.specs.declared.Answered.{Answered}
@@ -50,13 +51,14 @@ afterCall r = record { panel = r .panel; answered = withoutValue (cond (eqb (r .
 abbrev pub afterLook : LookResult → Performed
 afterLook r = record { panel = r .panel; answered = record { answer = shownAs (r .answer); value = r .value } }
 
--- one call on a panel
+-- one call on a panel, by what it returns
+abbrev pub performedBy : Result → Performed
+performedBy (ofAdd r) = afterAdd r
+performedBy (ofCall r) = afterCall r
+performedBy (ofLook r) = afterLook r
+
 unfoldable pub performed : Panel → Call → Performed
-performed p (add t n h) = afterAdd (addOf p t n h)
-performed p (linkUp t) = afterCall (linkOf true p t)
-performed p (linkDown t) = afterCall (linkOf false p t)
-performed p (message t s) = afterCall (messageOf p t s)
-performed p (look i now) = afterLook (lookOf p i now)
+performed p c = performedBy (resultOf p c)
 
 abbrev pub noCall : Answered
 noCall = withoutValue NoCall

@@ -8,30 +8,30 @@ use Rattle.fields.specs.Lists.{Each, flat}
 use Rattle.fields.specs.Numbers.{beBytes}
 use Rattle.fields.specs.Layout.{join}
 use Rattle.history.specs.Calls.{Call, add, linkUp, linkDown, message, look}
-use Rattle.replay.specs.Script.{callsIn}
+use Rattle.replay.specs.Script.{Fields, callsIn}
 
--- which call, its clock, its number, the lengths of its two parts, and the parts
-abbrev pub callFields : ℕ → ℕ → ℕ → List ℕ → List ℕ → List (List ℕ)
-callFields which clock number first second =
-    beBytes 1 which
-    ∷ beBytes 8 clock
-    ∷ beBytes 8 number
-    ∷ beBytes 4 (length first)
-    ∷ beBytes 4 (length second)
-    ∷ first
-    ∷ second
+-- the fields of a call, 0 for what it takes no notice of
+abbrev pub fieldsOf : Call → Fields
+fieldsOf (add t n h) = record { which = 0; clock = 0; number = h; first = t; second = n }
+fieldsOf (linkUp t) = record { which = 1; clock = t; number = 0; first = []; second = [] }
+fieldsOf (linkDown t) = record { which = 2; clock = t; number = 0; first = []; second = [] }
+fieldsOf (message t s) = record { which = 3; clock = t; number = 0; first = s; second = [] }
+fieldsOf (look i t) = record { which = 4; clock = t; number = i; first = []; second = [] }
+
+-- as they are written: which call, its clock, its number, the lengths of its two parts, and the parts
+abbrev pub written : Fields → List (List ℕ)
+written f =
+    beBytes 1 (f .which)
+    ∷ beBytes 8 (f .clock)
+    ∷ beBytes 8 (f .number)
+    ∷ beBytes 4 (length (f .first))
+    ∷ beBytes 4 (length (f .second))
+    ∷ f .first
+    ∷ f .second
     ∷ []
 
--- 0 for what a call takes no notice of
-abbrev pub fieldsOf : Call → List (List ℕ)
-fieldsOf (add t n h) = callFields 0 0 h t n
-fieldsOf (linkUp t) = callFields 1 t 0 [] []
-fieldsOf (linkDown t) = callFields 2 t 0 [] []
-fieldsOf (message t s) = callFields 3 t 0 s []
-fieldsOf (look i t) = callFields 4 t i [] []
-
 abbrev pub callBytes : Call → List ℕ
-callBytes c = join (fieldsOf c)
+callBytes c = join (written (fieldsOf c))
 
 -- a script of these calls
 unfoldable pub scriptOf : List Call → List ℕ
@@ -42,13 +42,17 @@ pub record PartFits (x : List ℕ) : Type 0 where
   pub bytes : Bytes x
   pub length-fits : length x < 256 ^ 4
 
--- the arguments fit: clocks and numbers eight bytes, the lengths of the parts four
+-- the clock and the number fit eight bytes
+pub record FieldsFit (f : Fields) : Type 0 where
+  pub which : f .which < 256
+  pub clock : f .clock < 256 ^ 8
+  pub number : f .number < 256 ^ 8
+  pub first : PartFits (f .first)
+  pub second : PartFits (f .second)
+
+-- the arguments fit their fields
 abbrev pub Fits : Call → Type 0
-Fits (add t n h) = PartFits t × PartFits n × (h < 256 ^ 8)
-Fits (linkUp t) = t < 256 ^ 8
-Fits (linkDown t) = t < 256 ^ 8
-Fits (message t s) = (t < 256 ^ 8) × PartFits s
-Fits (look i t) = (i < 256 ^ 8) × (t < 256 ^ 8)
+Fits c = FieldsFit (fieldsOf c)
 
 pub record Scripts : Type 0 where
   -- a script of calls that fit is of bytes, and its calls are those

@@ -1,6 +1,6 @@
 -- What follows from the words of the book and the history: one answer to a call; messages after the adding of their tile; numbers in order.
-use Prim.Native.Nat.{ℕ, _-_, _≤_}
-use mathlib.Core.Path.{_≡_, refl, sym, ap, ap₂, subst, _∙_}
+use Prim.Native.Nat.{ℕ, _-_}
+use mathlib.Core.Path.{_≡_, refl, sym, ap, subst, _∙_}
 use mathlib.Core.Logic.{⊎-elim}
 use mathlib.Core.Bool.{false≢true}
 use mathlib.Core.List.{List, []}
@@ -10,65 +10,23 @@ use lib.Dec.{eqb}
 use lib.ListN.{length}
 use borrow.Author.Tests.{eqb-true}
 use Rattle.fields.proofs.Laws.Tests.{by-zero, cond-cases}
-use Rattle.message.specs.Message.{Message}
-use Rattle.history.specs.Calls.{Call, add, linkUp, linkDown, message, look, Entry, Note, adding, linking, receiving, nothing, noteOf, Colour, green, grey, Answer, shown}
+use Rattle.history.specs.Calls.{Call, Entry, Note, adding, linking, receiving, nothing, noteOf, Answer}
 use Rattle.history.specs.Places.{passes, firstFree}
 use Rattle.history.specs.Reading.{Reader}
 use Rattle.history.specs.Summary.{Summary, tileAt, carries, noted, numberOn, summaryOf}
-use Rattle.history.specs.History.{callAt, valueFor, IsColour, NoneCounted, OfLast, Shown, Accepted, Answers}
+use Rattle.history.specs.History.{NoneCounted, Answers}
 use Rattle.history.specs.Words.{AfterAdding, Words}
 use Rattle.history.proofs.Laws.Places.{filled-at, free-at, NoGaps, filled-no-gaps, free-count}
-use Rattle.history.proofs.Laws.Longer.{by-calls, isReceiving, longer, book-next, book-kept, same-received, counted-cases, added-more, added-now}
+use Rattle.history.proofs.Laws.Rows.{row}
+use Rattle.history.proofs.Laws.Longer.{by-calls, isReceiving, longer, book-next, book-kept, counted-cases, added-more, added-now}
 
 -- ---- one answer
 
-module _ (R : Reader) (cs : List Call) (i now : ℕ) (a b : Answer) (S : Shown R cs i now a) (T : Shown R cs i now b) where
-  both-empty : NoneCounted R cs i → a ≡ b
-  both-empty q = S .is-empty .1 q ∙ sym (T .is-empty .1 q)
-
-  -- a colour of the one is the other's
-  other-colour : (k : Colour) → IsColour k a → IsColour k b
-  other-colour green y = T .is-green .1 (S .is-green .0 y)
-  other-colour grey y = T .is-grey .1 (S .is-grey .0 y)
-
-  both-last : OfLast R cs i now a → OfLast R cs i now b → a ≡ b
-  both-last o p =
-      let c = o .last .counted .counts-for in
-      let d = p .last .counted .counts-for in
-      let h : o .place ≤ p .place = p .last .last (o .place) (o .clock) (o .message) (o .last .counted) in
-      let k : p .place ≤ o .place = o .last .last (p .place) (p .clock) (p .message) (p .last .counted) in
-      let l : o .place ≡ p .place = omega (arith, h, k) in
-      let w = same-received R (o .clock) (p .clock) (c .bytes) (d .bytes) (o .message) (p .message)
-      (sym (c .is) ∙ ap (λ (j : ℕ). noteOf (callAt cs j)) l ∙ d .is) (c .read) (d .read) in
-      let y = other-colour (o .colour) (now - o .clock, valueFor (o .message) (o .tile), o .is) in
-      o .is ∙ same-shown (o .colour) (p .colour) (o .clock) (p .clock) (o .message) (p .message) (o .tile) (p .tile) (y .0) (y .1) (w .0) (w .1)
-      (sym (o .there) ∙ p .there) (sym (y .2) ∙ p .is) ∙ sym (p .is)
-    where
-      same-shown : (k l : Colour) (t u : ℕ) (m n : Message) (e f : Entry) (x : ℕ) (v : List ℕ) → t ≡ u → m ≡ n → some e ≡ some f
-          → shown k x v ≡ shown l (now - u) (valueFor n f) → shown k (now - t) (valueFor m e) ≡ shown l (now - u) (valueFor n f)
-      same-shown k l t u m n e f x v h g s q =
-          let c : k ≡ l = cc in
-          let d : e ≡ f = cc in
-          let z : valueFor m e ≡ valueFor n f = ap₂ valueFor g d in
-          let y : now - t ≡ now - u = ap (λ (r : ℕ). now - r) h in
-          ap₂ (λ (j : Colour) (r : ℕ). shown j r (valueFor m e)) c y ∙ ap (shown l (now - u)) z
-
-  shown-only : a ≡ b
-  shown-only = ⊎-elim both-empty (λ o. ⊎-elim both-empty (both-last o) (T .of-last)) (S .of-last)
-
-module _ (R : Reader) (cs : List Call) (a b : Answer) where
-  accepted-only : (c : Call) → Accepted R cs c a → Accepted R cs c b → a ≡ b
-  accepted-only (add t n h) x y = x ∙ sym y
-  accepted-only (linkUp t) x y = x ∙ sym y
-  accepted-only (linkDown t) x y = x ∙ sym y
-  accepted-only (message t s) x y = x ∙ sym y
-  accepted-only (look i now) x y = shown-only R cs i now a b x y
-
-  answers-only : (c : Call) → Answers R cs c a → Answers R cs c b → a ≡ b
-  answers-only c x y =
-      by-zero (numberOn R (summaryOf R cs) c)
-      (λ e. accepted-only c (x .acceptance e) (y .acceptance e))
-      (λ n. x .refusal n ∙ sym (y .refusal n))
+answers-only : (R : Reader) (cs : List Call) (c : Call) (a b : Answer) → Answers R cs c a → Answers R cs c b → a ≡ b
+answers-only R cs c a b x y =
+    by-zero (numberOn R (summaryOf R cs) c)
+    (λ e. row R c .one-answer cs a b (x .acceptance e) (y .acceptance e))
+    (λ n. x .refusal n ∙ sym (y .refusal n))
 
 -- ---- after the adding
 
@@ -157,7 +115,7 @@ module _ (R : Reader) where
 pub words : Words
 words =
     record {
-      one-answer = λ R cs c a b. answers-only R cs a b c;
+      one-answer = answers-only;
       after-adding = λ R cs i e h. subst (Since R i cs) h (since R i cs);
       in-order = λ R cs. free-count (summaryOf R cs .tiles) (no-gaps R cs);
     }

@@ -25,8 +25,8 @@ use Rattle.panel.specs.declared.LookAnswer.{LookAnswer}
 use Rattle.panel.specs.declared.LookAnswer.the-variants as look-answer
 use Rattle.panel.specs.declared.Value.{Value}
 use Rattle.panel.specs.Calls.{freshPanel, addOf, linkOf, messageOf, lookOf}
-use Rattle.panel.specs.Answers.{addAnswer, lookAnswer, Called, addCalled, callCalled}
-use Rattle.panel.specs.Demand3.{called, answerTo, panelNext, panelAfter}
+use Rattle.panel.specs.Answers.{addAnswer, lookAnswer, Result, ofAdd, ofCall, Called, calledBy}
+use Rattle.panel.specs.Demand3.{resultOf, answerTo, panelNext, panelAfter}
 use Rattle.panel.proofs.Laws.Contents.{bytesOf, PaddedValue, no-value-padded}
 use Rattle.panel.proofs.Laws.Demand3.{demand-3}
 use Rattle.replay.specs.declared.CallAnswer.{CallAnswer}
@@ -34,7 +34,7 @@ use Rattle.replay.specs.declared.CallAnswer.the-variants.{Accepted, Refu
 use Rattle.replay.specs.declared.Answered.{Answered}
 use Rattle.replay.specs.declared.Performed.{Performed}
 use Rattle.replay.specs.Script.{callLength, callOf, callsIn}
-use Rattle.replay.specs.Replay.{withoutValue, addedAs, shownAs, afterAdd, afterCall, afterLook, performed}
+use Rattle.replay.specs.Replay.{withoutValue, addedAs, shownAs, afterAdd, afterCall, afterLook, performedBy, performed}
 use Rattle.replay.specs.Replay.{noCall, answerAmong, answerAt, lookAfter, saying, Says, AnswersAt, ShowsAfter}
 use Rattle.replay.proofs.Laws.Script.{calls-none, calls-next, calls-bytes}
 
@@ -61,27 +61,10 @@ pub look-handed-on : (r : LookResult) {a : LookAnswer} → r .answer ≡ a
     → handedOn (r .panel) (record { answer = shownAs a; value = r .value }) ≡ afterLook r
 look-handed-on r e = ap (λ (x : LookAnswer). handedOn (r .panel) (record { answer = shownAs x; value = r .value })) (sym e)
 
--- the call c on the panel p, by what the panel's own call gives
-module _ (p : Panel) (c : Call) where
-  pub performs-add : {t n : List ℕ} {h : ℕ} {r : AddResult} → add t n h ≡ c → r ≡ addOf p t n h → afterAdd r ≡ performed p c
-  unfolding performed
-  performs-add e q = ap afterAdd q ∙ ap (performed p) e
-
-  pub performs-up : {t : ℕ} {r : CallResult} → linkUp t ≡ c → r ≡ linkOf true p t → afterCall r ≡ performed p c
-  unfolding performed
-  performs-up e q = ap afterCall q ∙ ap (performed p) e
-
-  pub performs-down : {t : ℕ} {r : CallResult} → linkDown t ≡ c → r ≡ linkOf false p t → afterCall r ≡ performed p c
-  unfolding performed
-  performs-down e q = ap afterCall q ∙ ap (performed p) e
-
-  pub performs-message : {t : ℕ} {s : List ℕ} {r : CallResult} → message t s ≡ c → r ≡ messageOf p t s → afterCall r ≡ performed p c
-  unfolding performed
-  performs-message e q = ap afterCall q ∙ ap (performed p) e
-
-  pub performs-look : {i t : ℕ} {r : LookResult} → look i t ≡ c → r ≡ lookOf p i t → afterLook r ≡ performed p c
-  unfolding performed
-  performs-look e q = ap afterLook q ∙ ap (performed p) e
+-- the call c on the panel p, by what the panel's own call returns
+pub performs-as : (p : Panel) (c : Call) {d : Call} {r : Result} → d ≡ c → r ≡ resultOf p d → performedBy r ≡ performed p c
+unfolding performed
+performs-as p c e q = ap performedBy q ∙ ap (performed p) e
 
 add-says : (a : AddAnswer) (v : List ℕ) → saying (addedAs a) v ≡ some (addAnswer a)
 add-says (add-answer.Added i) v = refl
@@ -105,14 +88,14 @@ record Performs (p : Panel) (q : Performed) (r : Called) : Type 0 where
   no-value : (IsColoured (r .answer) → ⊥) → q .answered .value .len ≡ 0
 
 module _ (p : Panel) where
-  add-performs : (r : AddResult) → Performs p (afterAdd r) (addCalled r)
+  add-performs : (r : AddResult) → Performs p (afterAdd r) (calledBy (ofAdd r))
   add-performs r = record { panel = refl; says = add-says (r .answer) _; padded = λ h. no-value-padded; no-value = λ z. refl }
 
-  call-performs : (r : CallResult) → Performs p (afterCall r) (callCalled r)
+  call-performs : (r : CallResult) → Performs p (afterCall r) (calledBy (ofCall r))
   call-performs r =
       record { panel = refl; says = call-says (eqb (r .number) 0) _ _; padded = λ h. no-value-padded; no-value = λ z. refl }
 
-  performs : (c : Call) → Performs p (performed p c) (called p c)
+  performs : (c : Call) → Performs p (performed p c) (calledBy (resultOf p c))
   unfolding performed
   performs (add t n h) = add-performs (addOf p t n h)
   performs (linkUp t) = call-performs (linkOf true p t)

@@ -15,7 +15,8 @@ use Rattle.history.specs.Reading.{Reader}
 use Rattle.history.specs.Summary.{Summary, tileAt, tileFault, clockFault, numberOn, summaryOf}
 use Rattle.history.specs.History.{holdTimeOf, NoLinkAfter, Current, NoneCounted, Last, OfLast, Shown, Accepted, Answers}
 use Rattle.history.proofs.Laws.Places.{changed-at}
-use Rattle.history.proofs.Laws.Clocks.{clock-passed, known}
+use Rattle.history.proofs.Laws.Rows.{clock-passed}
+use Rattle.history.proofs.Laws.Clocks.{known}
 use Rattle.room.proofs.Laws.Room.{Received, RoomTile, Room, roomAt, entryOf, bookOf, shownLast, shownBy, answered, roomAnswer, roomAfter}
 use Rattle.room.proofs.Laws.Component.{books}
 use Rattle.room.proofs.Laws.Last.{LastReceived, Kept, KeptBy, kept}
