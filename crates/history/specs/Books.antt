@@ -6,9 +6,13 @@ use mathlib.Core.Bool.{Bool, true, false}
 use mathlib.Core.List.{List, [], _∷_, _++_, map}
 use mathlib.Core.Option.{Option, none, some}
 use lib.ListN.{take, replicate}
+use Rattle.fields.specs.Bytes.{Bytes}
 use Rattle.fields.specs.Lists.{Each}
 use Rattle.content.specs.Kinds.{transformText, positionText}
-use Rattle.message.specs.Samples.{armMessage, armBytes, armContent, probeBytes}
+use Rattle.content.specs.Tree.{position}
+use Rattle.message.specs.Message.{Message}
+use Rattle.message.specs.Check.{readOf}
+use Rattle.message.specs.Samples.{armMessage, armBytes, armContent, zeroBytes, probeMessage, probeBytes, pointText, pointWords, pointMessage, pointBytes, pointContent}
 use Rattle.history.specs.Calls.{Call, add, linkUp, linkDown, message, look, Entry, OfBytes}
 use Rattle.history.specs.Reading.{noMessage, leftOver, oneMessage, Reader}
 use Rattle.history.specs.Summary.{Summary, freshSummary, numberBy, numberOn, next, summaryOf}
@@ -40,9 +44,24 @@ armTile = tileOf transformText armName
 abbrev pub armTiles : List (Option Entry)
 armTiles = some armTile ∷ []
 
+-- that tile with another name
+abbrev pub armNamed : List ℕ → List (Option Entry)
+armNamed name = some (tileOf transformText name) ∷ []
+
+-- names that are not "Arm": "arm", "Arn", "Ar", "Arm "
+abbrev pub otherNames : List (List ℕ)
+otherNames = (97 ∷ 114 ∷ 109 ∷ []) ∷ (65 ∷ 114 ∷ 110 ∷ []) ∷ (65 ∷ 114 ∷ []) ∷ (65 ∷ 114 ∷ 109 ∷ 32 ∷ []) ∷ []
+
 -- the tile, link up at 1000, its message at 1200
 abbrev pub armCalls : List Call
 armCalls = add transformText armName 500 ∷ linkUp 1000 ∷ message 1200 armBytes ∷ []
+
+-- ---- the messages
+
+-- a POSITION of these words in V 1
+abbrev pub positionOf : List ℕ → Message
+positionOf ws =
+    record { version = 1; deviceName = armName; timeStamp = 0; id = 0; further = []; content = position ws; metadata = armMessage .metadata }
 
 -- ---- what the bytes of message calls are
 
@@ -50,13 +69,18 @@ armCalls = add transformText armName 500 ∷ linkUp 1000 ∷ message 1200 armByt
 abbrev pub damagedBytes : List ℕ
 damagedBytes = take 105 armBytes ++ (0 ∷ [])
 
--- 57 bytes; another CRC; a message and one byte more; one message
+-- 57 bytes; another CRC; whatever the reader refuses, with its number; a message and one byte more, a 0 or a message more; one message
 pub record Read (R : Reader) : Type 0 where
   pub short : R .read (take 57 armBytes) ≡ noMessage 1
   pub damaged : R .read damagedBytes ≡ noMessage 5
+  pub refused : (s : List ℕ) → Bytes s → (readOf s .number ≡ 0 → ⊥) → R .read s ≡ noMessage (readOf s .number)
   pub more : R .read (armBytes ++ (7 ∷ [])) ≡ leftOver
+  pub zero-more : R .read (armBytes ++ (0 ∷ [])) ≡ leftOver
+  pub message-more : R .read (armBytes ++ zeroBytes) ≡ leftOver
   pub other-more : R .read (probeBytes ++ (7 ∷ [])) ≡ leftOver
   pub arm : R .read armBytes ≡ oneMessage armMessage
+  pub probe : R .read probeBytes ≡ oneMessage probeMessage
+  pub point : R .read pointBytes ≡ oneMessage pointMessage
 
 module _ (R : Reader) where
   -- the numbers of these calls, each made on the same book
@@ -84,8 +108,13 @@ module _ (R : Reader) where
         ∷ add transformText (nameOf 17) 0
         ∷ [])
         ≡ 18 ∷ 17 ∷ 17 ∷ 16 ∷ []
-    -- link calls: 15
+    -- another name is another tile; names of 19 and 20 bytes
+    pub names : map (λ n. numberOn R (bookOf armTiles false 0) (add transformText n 500)) otherNames ≡ replicate 4 0
+    pub long-names : numbersOn (bookOf (armNamed (nameOf 19)) false 0) (add transformText (nameOf 20) 500 ∷ add transformText (nameOf 19) 500 ∷ [])
+        ≡ 0 ∷ 17 ∷ []
+    -- link calls: 15, and nothing else, whether the link is up or down
     pub links : numbersOn (bookOf armTiles true 1200) (linkUp 1199 ∷ linkUp 1200 ∷ linkDown 1199 ∷ linkDown 1200 ∷ []) ≡ 15 ∷ 0 ∷ 15 ∷ 0 ∷ []
+    pub links-down : numbersOn (bookOf armTiles false 1200) (linkUp 1199 ∷ linkUp 1200 ∷ linkDown 1199 ∷ linkDown 1200 ∷ []) ≡ 15 ∷ 0 ∷ 15 ∷ 0 ∷ []
     -- message calls while the link is up: 15; the reader's number; 12, also where no tile has its name and type; 13; it counts
     pub messages-up : numbersOn (bookOf armTiles true 1200)
         (message 1199 damagedBytes
@@ -93,43 +122,59 @@ module _ (R : Reader) where
         ∷ message 1200 damagedBytes
         ∷ message 1200 (armBytes ++ (7 ∷ []))
         ∷ message 1200 (probeBytes ++ (7 ∷ []))
+        ∷ message 1200 probeBytes
         ∷ message 1200 armBytes
         ∷ [])
-        ≡ 15 ∷ 1 ∷ 5 ∷ 12 ∷ 12 ∷ 0 ∷ []
+        ≡ 15 ∷ 1 ∷ 5 ∷ 12 ∷ 12 ∷ 13 ∷ 0 ∷ []
     -- while it is down: 15 before 14; 14 before the reader's number, before 12 and 13
     pub messages-down : numbersOn (bookOf armTiles false 1200)
         (message 1199 armBytes ∷ message 1200 armBytes ∷ message 1200 damagedBytes ∷ message 1200 (armBytes ++ (7 ∷ [])) ∷ [])
         ≡ 15 ∷ 14 ∷ 14 ∷ 14 ∷ []
-    -- no tile has its name and type: no tile at all; another type; another name
+    -- no tile has its name and type: no tile at all; another type; other names
     pub messages-unknown : numberOn R (bookOf [] true 0) (message 0 armBytes)
         ∷ numberOn R (bookOf (some (tileOf positionText armName) ∷ []) true 0) (message 0 armBytes)
         ∷ numberOn R (bookOf (some (tileOf transformText (nameOf 3)) ∷ []) true 0) (message 0 armBytes)
         ∷ []
         ≡ 13 ∷ 13 ∷ 13 ∷ []
+    pub messages-named : map (λ n. numberOn R (bookOf (armNamed n) true 0) (message 0 armBytes)) otherNames ≡ replicate 4 13
+    -- a POSITION in V 2, from a name of 20 bytes: another type; 19 bytes of the name; it counts
+    pub messages-point : map (λ e. numberOn R (bookOf (some e ∷ []) true 0) (message 0 pointBytes))
+        (tileOf transformText pointText ∷ tileOf positionText (take 19 pointText) ∷ tileOf positionText pointText ∷ [])
+        ≡ 13 ∷ 13 ∷ 0 ∷ []
+    -- it counts for the last of sixteen tiles
+    pub messages-last : numberOn R (bookOf (tilesTo 15 ++ armTiles) true 0) (message 0 armBytes) ≡ 0
     -- looks: tile 15 of sixteen; 19; 19 before 15; 15. The link does not matter
     pub looks : numbersOn (bookOf (tilesTo 16) false 1200) (look 15 1200 ∷ look 16 1200 ∷ look 16 1199 ∷ look 15 1199 ∷ [])
         ≡ 0 ∷ 19 ∷ 19 ∷ 15 ∷ []
+    -- all bits of a number count
+    pub wide-looks : numbersOn (bookOf armTiles true 0) (look 0 0 ∷ look 256 0 ∷ look 65536 0 ∷ look 4294967296 0 ∷ look 0xFFFFFFFFFFFFFFFF 0 ∷ [])
+        ≡ 0 ∷ 19 ∷ 19 ∷ 19 ∷ 19 ∷ []
     -- what is noted: an add's tile, after the others; link and clock of a link call; the clock of a message that counts; nothing of a look
     pub added : next R (bookOf armTiles true 1200) (add positionText armName 60000)
         ≡ bookOf (some armTile ∷ some (record { typeText = positionText; name = armName; holdTime = 60000 }) ∷ []) true 1200
     pub linked : booksAfter (bookOf armTiles true 1200) (linkUp 1300 ∷ linkDown 1300 ∷ [])
         ≡ bookOf armTiles true 1300 ∷ bookOf armTiles false 1300 ∷ []
+    pub linked-down : booksAfter (bookOf armTiles false 1200) (linkUp 1300 ∷ linkDown 1300 ∷ [])
+        ≡ bookOf armTiles true 1300 ∷ bookOf armTiles false 1300 ∷ []
+    pub linked-late : booksAfter (bookOf armTiles true 1200) (linkUp 0xFFFFFFFFFFFFFFFF ∷ message 4294967296 armBytes ∷ [])
+        ≡ bookOf armTiles true 0xFFFFFFFFFFFFFFFF ∷ bookOf armTiles true 4294967296 ∷ []
     pub counted : booksAfter (bookOf armTiles true 1200) (message 1300 armBytes ∷ look 0 1300 ∷ [])
         ≡ bookOf armTiles true 1300 ∷ bookOf armTiles true 1200 ∷ []
-    -- nothing of a refused call: 17; 15 and 15; 15, 5 and 12; 19
+    -- nothing of a refused call: 16 and 17; 15 and 15; 15, 5, 12 and 13; 19; then 18; 14
     pub refused : booksAfter (bookOf armTiles true 1200)
-        (add transformText armName 500
+        (add positionText armName 0
+        ∷ add transformText armName 500
         ∷ linkUp 1199
         ∷ linkDown 1199
         ∷ message 1199 armBytes
         ∷ message 1300 damagedBytes
         ∷ message 1300 (armBytes ++ (7 ∷ []))
+        ∷ message 1300 probeBytes
         ∷ look 1 1300
         ∷ [])
-        ≡ replicate 7 (bookOf armTiles true 1200)
-    -- 14; 13
+        ≡ replicate 9 (bookOf armTiles true 1200)
+    pub refused-full : next R (bookOf (tilesTo 16) true 0) (add transformText (nameOf 17) 500) ≡ bookOf (tilesTo 16) true 0
     pub refused-down : next R (bookOf armTiles false 1200) (message 1300 armBytes) ≡ bookOf armTiles false 1200
-    pub refused-unknown : next R (bookOf [] true 1200) (message 1300 armBytes) ≡ bookOf [] true 1200
     -- the book after a sequence of calls
     pub arm : summaryOf R armCalls ≡ bookOf armTiles true 1200
     -- a message while the link is down, an add, a link up, a message, a look, another add
@@ -159,9 +204,15 @@ module _ (R : Reader) where
 pub record Books : Type 0 where
   -- rule 7.1
   pub fresh : freshSummary ≡ bookOf [] false 0
-  -- calls of every kind can be made
+  -- calls of every kind can be made, with any arguments, a message with any bytes
   pub calls : Each OfBytes (armCalls ++ (linkDown 1300 ∷ look 0 1400 ∷ []))
+  pub any-calls : (type name bytes : List ℕ) (holdTime clock tile : ℕ) → Bytes bytes
+      → Each OfBytes (add type name holdTime ∷ linkUp clock ∷ linkDown clock ∷ message clock bytes ∷ look tile clock ∷ [])
   -- the value of the message from "Arm"
   pub value : valueFor armMessage armTile ≡ armContent
+  -- and of POSITIONs, with six words in V 2, and with three and seven words
+  pub point-value : valueFor pointMessage (tileOf positionText pointText) ≡ pointContent
+  pub position-values : map (λ ws. valueFor (positionOf ws) (tileOf positionText armName)) (take 3 pointWords ∷ (pointWords ++ (7 ∷ [])) ∷ [])
+      ≡ take 12 pointContent ∷ (pointContent ++ (0 ∷ 0 ∷ 0 ∷ 7 ∷ [])) ∷ []
   pub reads : (R : Reader) → Read R
   pub on-books : (R : Reader) → OnBooks R

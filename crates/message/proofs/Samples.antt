@@ -16,7 +16,8 @@ use Rattle.metadata.specs.Metadata.{WellEntry, entryHeader, entryData, encodeMe
 use Rattle.metadata.specs.Check.{entryOk, entriesOk, sectionOk, metadataFault}
 use Rattle.pose.specs.Words.{wordBytes}
 use Rattle.pose.specs.Transform.{transformFault}
-use Rattle.content.specs.Kinds.{transformText, kindOf}
+use Rattle.pose.specs.Position.{six, wordsIn, positionFault}
+use Rattle.content.specs.Kinds.{transformText, positionText, kindOf}
 use Rattle.content.specs.Check.{contentFault}
 use Rattle.content.specs.Tree as tree
 use Rattle.content.proofs.Examples as content
@@ -27,7 +28,7 @@ use Rattle.message.specs.Check.{extendedOk, bodyFault, placesOf, wholeFa
 use Rattle.message.specs.Writer.{fits, fitFault, sectionsChecks, writeChecks, writeFault, messageWritten, messageOut}
 use Rattle.message.proofs.Laws.Below.{each-below, bytes-below}
 use Rattle.fields.proofs.Laws.Text.{is-text}
-use Rattle.message.specs.Samples.{armMessage, armWords, statusText, probeText, probeMessage, Samples}
+use Rattle.message.specs.Samples.{armMessage, armWords, statusText, probeText, probeMessage, pointText, pointWords, pointMessage, Samples}
 
 opaque : Opaque statusText
 opaque =
@@ -90,8 +91,30 @@ probe-well =
       size-limit = omega arith;
     }
 
+point-well : WellFormed pointMessage
+unfolding encodeMetadata entryHeader entryData WellMetadata tree.WellFormed tree.encode encodeBody wordBytes flat beBytes isText all
+point-well =
+    record {
+      texts =
+          record { type-text = is-text positionText refl; type-fits = omega arith; name-text = is-text pointText refl; name-fits = omega arith };
+      stamp-fits = omega arith;
+      sections =
+          inr (
+            refl,
+            record {
+              id-fits = omega arith;
+              further-bytes = bytes-below (pointMessage .further) refl;
+              further-fits = omega arith;
+              metadata-fits = omega arith;
+            },
+          );
+      content = record { count = six; words = each-below (256 ^ 4) pointWords refl };
+      metadata = (omega arith, (entry-well, tt));
+      size-limit = omega arith;
+    }
+
 pub samples : Samples
-unfolding encodeParts encodeHeader encodeBody encodeMetadata entryHeader entryData tree.encode wordBytes flat beBytes textBytes sized crcOf bits bitsOf bitAt run bitStep readOf numberOf stepOf frontFault bodyChecks sectionsFault crcFault versionFault wholeFault placesOf bodyFault extendedOk contentFault kindOf transformFault metadataFault sectionOk entriesOk entryOk headerOf shortFault textsFault limitFault headerFault beVal textOf pastText allZero textOk textClean fieldOk isText all same messageWritten messageOut writeFault writeChecks sectionsChecks fitFault fits namesFault writtenOf roomFault outAfter
+unfolding encodeParts encodeHeader encodeBody encodeMetadata entryHeader entryData tree.encode wordBytes flat beBytes textBytes sized crcOf bits bitsOf bitAt run bitStep readOf numberOf stepOf frontFault bodyChecks sectionsFault crcFault versionFault wholeFault placesOf bodyFault extendedOk contentFault kindOf transformFault positionFault wordsIn metadataFault sectionOk entriesOk entryOk headerOf shortFault textsFault limitFault headerFault beVal textOf pastText allZero textOk textClean fieldOk isText all same messageWritten messageOut writeFault writeChecks sectionsChecks fitFault fits namesFault writtenOf roomFault outAfter
 samples =
     record {
       arm =
@@ -114,6 +137,23 @@ samples =
       probe =
           record {
             well = probe-well;
+            bytes = refl;
+            read = refl;
+            read-more = refl;
+            cut-short = refl;
+            damaged = refl;
+            version-3 = refl;
+            type-in = refl;
+            name-in = refl;
+            further-in = refl;
+            content-in = refl;
+            metadata-in = refl;
+            written = refl;
+            out = refl;
+          };
+      point =
+          record {
+            well = point-well;
             bytes = refl;
             read = refl;
             read-more = refl;

@@ -11,10 +11,10 @@ use Rattle.fields.specs.Numbers.{beBytes}
 use Rattle.fields.specs.Text.{textBytes}
 use Rattle.fields.specs.Layout.{join}
 use Rattle.crc64.specs.Crc.{crcOf}
-use Rattle.metadata.specs.Metadata.{absent, section}
-use Rattle.content.specs.Kinds.{transformText, bindText}
+use Rattle.metadata.specs.Metadata.{Metadata, absent, section}
+use Rattle.content.specs.Kinds.{transformText, positionText, bindText}
 use Rattle.content.specs.Examples.{noChildren, within}
-use Rattle.content.specs.Tree.{transform, other}
+use Rattle.content.specs.Tree.{transform, position, other}
 use Rattle.message.specs.declared.Answer.{Answer}
 use Rattle.message.specs.declared.FixedFields.{FixedFields}
 use Rattle.message.specs.Body.{Sections}
@@ -110,6 +110,9 @@ statusText = 83 ∷ 84 ∷ 65 ∷ 84 ∷ 85 ∷ 83 ∷ []
 abbrev pub probeText : List ℕ
 probeText = 80 ∷ 114 ∷ 111 ∷ 98 ∷ 101 ∷ []
 
+abbrev pub probeSection : Metadata
+probeSection = section (record { key = 75 ∷ []; encoding = 0x5152; value = 0x61 ∷ 0x62 ∷ [] } ∷ [])
+
 abbrev pub probeMessage : Message
 probeMessage =
     record {
@@ -119,7 +122,7 @@ probeMessage =
       id = 0x21222324;
       further = 0x31 ∷ 0x32 ∷ [];
       content = other statusText (0x41 ∷ 0x42 ∷ 0x43 ∷ []);
-      metadata = section (record { key = 75 ∷ []; encoding = 0x5152; value = 0x61 ∷ 0x62 ∷ [] } ∷ []);
+      metadata = probeSection;
     }
 
 -- INDEX_COUNT, KEY_SIZE, VALUE_ENCODING, VALUE_SIZE, the key and the value
@@ -159,6 +162,74 @@ probeAnswer =
       «content_at» = 72;
       «content_len» = 3;
       «metadata_at» = 75;
+      «metadata_len» = 13;
+    }
+
+-- ---- V 2: a POSITION from a device whose name fills its field, with one further byte, six words, and the same metadata
+
+-- "ABCDEFGHIJKLMNOPQRST"
+abbrev pub pointText : List ℕ
+pointText =
+    join
+    ((65 ∷ 66 ∷ 67 ∷ 68 ∷ 69 ∷ 70 ∷ 71 ∷ 72 ∷ 73 ∷ 74 ∷ [])
+    ∷ (75 ∷ 76 ∷ 77 ∷ 78 ∷ 79 ∷ 80 ∷ 81 ∷ 82 ∷ 83 ∷ 84 ∷ [])
+    ∷ [])
+
+abbrev pub pointWords : List ℕ
+pointWords = 0x60616263 ∷ 0x64656667 ∷ 0x68696A6B ∷ 0x6C6D6E6F ∷ 0x70717273 ∷ 0x74757677 ∷ []
+
+abbrev pub pointMessage : Message
+pointMessage =
+    record {
+      version = 2;
+      deviceName = pointText;
+      timeStamp = 0x3132333435363738;
+      id = 0x41424344;
+      further = 0x51 ∷ [];
+      content = position pointWords;
+      metadata = probeSection;
+    }
+
+abbrev pub pointContent : List ℕ
+pointContent =
+    join
+    ((0x60 ∷ 0x61 ∷ 0x62 ∷ 0x63 ∷ 0x64 ∷ 0x65 ∷ 0x66 ∷ 0x67 ∷ 0x68 ∷ 0x69 ∷ 0x6A ∷ 0x6B ∷ [])
+    ∷ (0x6C ∷ 0x6D ∷ 0x6E ∷ 0x6F ∷ 0x70 ∷ 0x71 ∷ 0x72 ∷ 0x73 ∷ 0x74 ∷ 0x75 ∷ 0x76 ∷ 0x77 ∷ [])
+    ∷ [])
+
+-- V, TYPE, DEVICE_NAME, TIME_STAMP, BODY_SIZE, CRC; EXT_HEADER_SIZE and METADATA_SIZE, MSG_ID, reserved, further byte; content; metadata
+abbrev pub pointBytes : List ℕ
+pointBytes =
+    join
+    ((0 ∷ 2 ∷ [])
+    ∷ (80 ∷ 79 ∷ 83 ∷ 73 ∷ 84 ∷ 73 ∷ 79 ∷ 78 ∷ 0 ∷ 0 ∷ 0 ∷ 0 ∷ [])
+    ∷ pointText
+    ∷ (0x31 ∷ 0x32 ∷ 0x33 ∷ 0x34 ∷ 0x35 ∷ 0x36 ∷ 0x37 ∷ 0x38 ∷ [])
+    ∷ (0 ∷ 0 ∷ 0 ∷ 0 ∷ 0 ∷ 0 ∷ 0 ∷ 50 ∷ [])
+    ∷ (0xAC ∷ 0x6D ∷ 0x57 ∷ 0xC7 ∷ 0x07 ∷ 0x1D ∷ 0xD6 ∷ 0x56 ∷ [])
+    ∷ (0 ∷ 13 ∷ 0 ∷ 13 ∷ [])
+    ∷ (0x41 ∷ 0x42 ∷ 0x43 ∷ 0x44 ∷ [])
+    ∷ (0 ∷ 0 ∷ 0 ∷ 0 ∷ [])
+    ∷ (0x51 ∷ [])
+    ∷ pointContent
+    ∷ probeMetadata
+    ∷ [])
+
+abbrev pub pointAnswer : Answer
+pointAnswer =
+    record {
+      number = 0;
+      step = 108;
+      version = 2;
+      «type_len» = 8;
+      «name_len» = 20;
+      «time_stamp» = 0x3132333435363738;
+      id = 0x41424344;
+      «further_at» = 70;
+      «further_len» = 1;
+      «content_at» = 71;
+      «content_len» = 24;
+      «metadata_at» = 95;
       «metadata_len» = 13;
     }
 
@@ -248,6 +319,8 @@ pub record Samples : Type 0 where
       transformText (65 ∷ 114 ∷ 109 ∷ []) [] armContent []
   pub probe : Sample probeMessage probeBytes probeAnswer (record { version = 2; «time_stamp» = 0x1112131415161718; id = 0x21222324 })
       statusText probeText (0x31 ∷ 0x32 ∷ []) (0x41 ∷ 0x42 ∷ 0x43 ∷ []) probeMetadata
+  pub point : Sample pointMessage pointBytes pointAnswer (record { version = 2; «time_stamp» = 0x3132333435363738; id = 0x41424344 })
+      positionText pointText (0x51 ∷ []) pointContent probeMetadata
   pub zeros : readOf zeroBytes ≡ zeroAnswer
   -- ---- the reader, rule 5.2
   -- no bytes: all but the number is 0

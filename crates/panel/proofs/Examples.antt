@@ -17,7 +17,7 @@ use Rattle.message.specs.Message.{Message, encode}
 use Rattle.message.specs.Check.{readOf}
 use Rattle.message.specs.Demand2.{Begins}
 use Rattle.message.specs.declared.Answer.{Answer as Read}
-use Rattle.message.specs.Samples.{armMessage, armBytes, armAnswer, armContent, zeroBytes, zeroAnswer}
+use Rattle.message.specs.Samples.{armMessage, armBytes, armAnswer, armContent, zeroBytes, zeroAnswer, pointBytes, pointAnswer}
 use Rattle.message.proofs.Samples.{samples}
 use Rattle.message.proofs.Laws.Messages.{demand-2}
 use Rattle.history.specs.Calls.{add, linkUp, linkDown, message, look, green, grey, Answer, refused, empty, shown}
@@ -33,7 +33,7 @@ use Rattle.panel.specs.declared.CallResult.{CallResult}
 use Rattle.panel.specs.Tiles.{valueOf, labelOf, countedFor, isTile}
 use Rattle.panel.specs.Calls.{labelIn, addFault, addOf, linkOf, readFault, messageFault, received, refusedCall, messageOf, lookFault, lookOf}
 use Rattle.panel.specs.Demand3.{answerTo, panelNext, panelAfter}
-use Rattle.panel.specs.Examples.{armText, FromArm, armTile, armBytesCalls, threeTiles, oneCounted, twoCounted, ArmLook, armValue, zeroValue, Examples}
+use Rattle.panel.specs.Examples.{armText, FromArm, armTile, armBytesCalls, threeTiles, oneCounted, twoCounted, twoTiles, bothCounted, sixteenTiles, lastCounted, lateCalls, ArmLook, armValue, zeroValue, Examples}
 use Rattle.panel.proofs.Laws.Calls.{message-accepted, read-whole}
 use Rattle.history.proofs.Laws.Readings.{begins-one, one-step}
 use Rattle.panel.proofs.Laws.Contents.{bytesOf, pose-short, value-bytes}
@@ -126,13 +126,18 @@ messageRead p t s a =
     (record { panel = received p t s a; number = 0 })
     (refusedCall p (orElse (clockFault (p .link .clock) t) (orElse (cond (p .link .up) 0 14) (readFault (p .tiles) s a))))
 
-arm-sent : (p : Panel) (t : ℕ) → messageOf p t armBytes ≡ messageRead p t armBytes armAnswer
+sent : (s : List ℕ) (a : Read) → readOf s ≡ a → (p : Panel) (t : ℕ) → messageOf p t s ≡ messageRead p t s a
 unfolding messageOf messageFault
-arm-sent p t = ap (messageRead p t armBytes) (samples .arm .read)
+sent s a e p t = ap (messageRead p t s) e
+
+arm-sent : (p : Panel) (t : ℕ) → messageOf p t armBytes ≡ messageRead p t armBytes armAnswer
+arm-sent = sent armBytes armAnswer (samples .arm .read)
 
 zero-sent : (p : Panel) (t : ℕ) → messageOf p t zeroBytes ≡ messageRead p t zeroBytes zeroAnswer
-unfolding messageOf messageFault
-zero-sent p t = ap (messageRead p t zeroBytes) (samples .zeros)
+zero-sent = sent zeroBytes zeroAnswer (samples .zeros)
+
+point-sent : (p : Panel) (t : ℕ) → messageOf p t pointBytes ≡ messageRead p t pointBytes pointAnswer
+point-sent = sent pointBytes pointAnswer (samples .point .read)
 
 -- the panels after one message and after two
 one-panel : panelAfter oneCounted ≡ messageRead (panelAfter threeTiles) 1200 armBytes armAnswer .panel
@@ -150,6 +155,24 @@ two-panel =
 
 abbrev twoPanel : Panel
 twoPanel = messageRead onePanel 1300 zeroBytes zeroAnswer .panel
+
+-- the panel after a message for each of two tiles
+abbrev firstPanel : Panel
+firstPanel = messageRead (panelAfter twoTiles) 1200 armBytes armAnswer .panel
+
+abbrev bothPanel : Panel
+bothPanel = messageRead firstPanel 1300 pointBytes pointAnswer .panel
+
+both-panel : panelAfter bothCounted ≡ bothPanel
+unfolding panelAfter
+both-panel =
+    ap (λ (r : CallResult). messageOf (r .panel) 1300 pointBytes .panel) (arm-sent (panelAfter twoTiles) 1200)
+    ∙ ap (λ (r : CallResult). r .panel) (point-sent firstPanel 1300)
+
+-- and after one for the last of sixteen
+last-panel : panelAfter lastCounted ≡ messageRead (panelAfter sixteenTiles) 1200 armBytes armAnswer .panel
+unfolding panelAfter
+last-panel = ap (λ (r : CallResult). r .panel) (arm-sent (panelAfter sixteenTiles) 1200)
 
 -- what looks at tiles answer on a panel
 abbrev onPanel : List ℕ → ℕ → Panel → List Answer
@@ -195,15 +218,32 @@ examples =
           ∙ ap (λ (r : CallResult). onPanel (1 ∷ []) 1500 (r .panel)) (arm-sent (panelNext twoPanel (linkUp 1400)) 1500);
       green-kept = ap (λ (p : Panel). onPanel (1 ∷ 3 ∷ []) 1400 (panelNext (panelNext p (add positionText (65 ∷ []) 1)) (linkDown 1299))) two-panel;
       refused-message = down-sent;
-      unknown-message =
-          ap (λ (r : CallResult). onPanel (0 ∷ []) 1200 (r .panel))
-          (arm-sent (panelAfter (add transformText (65 ∷ []) 500 ∷ linkUp 1000 ∷ [])) 1500);
+      same-clock =
+          ap (λ (p : Panel). onPanel (1 ∷ []) 1200 (messageOf p 1200 zeroBytes .panel)) one-panel
+          ∙ ap (λ (r : CallResult). onPanel (1 ∷ []) 1200 (r .panel)) (zero-sent onePanel 1200);
+      link-same-clock =
+          ap (λ (p : Panel). onPanel (1 ∷ []) 1200 (panelNext p (linkUp 1200)) ∷ onPanel (1 ∷ []) 1200 (panelNext p (linkDown 1200)) ∷ []) one-panel;
+      both-counted = ap (onPanel (0 ∷ 1 ∷ []) 1400) both-panel;
+      both-older = ap (onPanel (0 ∷ 1 ∷ []) 61300) both-panel;
+      one-again =
+          ap (λ (p : Panel). onPanel (0 ∷ 1 ∷ []) 1600 (messageOf (panelNext p (linkUp 1400)) 1500 pointBytes .panel)) both-panel
+          ∙ ap (λ (r : CallResult). onPanel (0 ∷ 1 ∷ []) 1600 (r .panel)) (point-sent (panelNext bothPanel (linkUp 1400)) 1500);
+      before-adding =
+          ap (λ (r : CallResult). onPanel (0 ∷ []) 1000 (panelNext (r .panel) (add transformText armText 500)))
+          (arm-sent (panelAfter (linkUp 1000 ∷ [])) 1200);
+      down-twice = refl;
+      last-counted = ap (onPanel (0 ∷ 14 ∷ 15 ∷ 16 ∷ []) 1700) last-panel;
+      last-linked = ap (λ (p : Panel). onPanel (15 ∷ []) 1400 (panelNext p (linkDown 1300))) last-panel;
+      late-counted = ap (λ (r : CallResult). onPanel (0 ∷ []) 0xFFFFFFFFFFFFFFFF (r .panel)) (arm-sent (panelAfter lateCalls) 0xFFFFFFFFFFFFFF01);
+      late-clock = ap (λ (r : CallResult). onPanel (0 ∷ []) 0xFFFFFFFFFFFFFF00 (r .panel)) (arm-sent (panelAfter lateCalls) 0xFFFFFFFFFFFFFF01);
       at-zero =
           ap (λ (r : CallResult). onPanel (0 ∷ []) 0 (r .panel))
           (arm-sent (panelAfter (add transformText armText 500 ∷ linkUp 0 ∷ [])) 0);
       arm-added = refl;
       arm-twice = ap (λ (p : Panel). addOf p transformText armText 500 .answer) arm-panel;
       arm-second = ap (λ (p : Panel). addOf p positionText armText 500 .answer) arm-panel;
+      last-added = refl;
+      none-added = refl;
       arm-late = ap (λ (p : Panel). linkOf true p 1199 .number) arm-panel;
       arm-counted =
           ap (λ (s : List ℕ). messageOf linkedPanel 1200 s .number) (sym (samples .arm .bytes))
@@ -213,6 +253,7 @@ examples =
       arm-early = arm-look 0 1199 (look-answer.Refused 15) zeroValue refl;
       arm-not-there = arm-look 1 1199 (look-answer.Refused 19) zeroValue refl;
       arm-empty = refl;
+      point-value = ap (λ (p : Panel). lookOf p 1 1400 .value) both-panel;
       add-answers = refl;
       look-answers = refl;
       short-value = refl;

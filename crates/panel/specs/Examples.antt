@@ -1,5 +1,5 @@
 -- Cases P10 to P12 of rule 8.1, and a cable that comes loose and is put back, for every TRANSFORM message from the device Arm; such a message
--- byte by byte, and what the tile then shows.
+-- byte by byte, and what the tile then shows; runs of calls on two, three and sixteen tiles.
 use Prim.Native.Nat.{ℕ}
 use mathlib.Core.Path.{_≡_}
 use mathlib.Core.Bool.{true}
@@ -8,8 +8,9 @@ use lib.ListN.{replicate}
 use Rattle.content.specs.Kinds.{transformText, positionText}
 use Rattle.content.specs.Tree.{typeText}
 use Rattle.message.specs.Message.{Message, WellFormed, encode}
-use Rattle.message.specs.Samples.{armMessage, armBytes, armContent, zeroBytes}
+use Rattle.message.specs.Samples.{armMessage, armBytes, armContent, zeroBytes, pointText, pointBytes, pointContent}
 use Rattle.history.specs.Books as books
+use Rattle.history.specs.Examples.{nameOf}
 use Rattle.history.specs.Calls.{Call, add, linkUp, linkDown, message, look, Entry, green, grey, Answer, refused, accepted, added, empty, shown}
 use Rattle.history.specs.Reading.{Reader}
 use Rattle.history.specs.History.{valueFor, Shown}
@@ -70,6 +71,31 @@ oneCounted = threeTiles ++ (message 1200 armBytes ∷ [])
 abbrev pub twoCounted : List Call
 twoCounted = oneCounted ++ (message 1300 zeroBytes ∷ [])
 
+-- two tiles: TRANSFORM "Arm" with the hold time 500, and POSITION with a name of 20 bytes and the hold time 60,000; a message for each
+abbrev pub twoTiles : List Call
+twoTiles = add transformText armText 500 ∷ add positionText pointText 60000 ∷ linkUp 1000 ∷ []
+
+abbrev pub bothCounted : List Call
+bothCounted = twoTiles ++ (message 1200 armBytes ∷ message 1300 pointBytes ∷ [])
+
+-- fifteen TRANSFORM tiles, whose names have 1 to 15 bytes; "Arm" as the last of sixteen, and a message for it
+abbrev pub fifteenTiles : List Call
+fifteenTiles =
+    map (λ n. add transformText (nameOf n) 500) (1 ∷ 2 ∷ 3 ∷ 4 ∷ 5 ∷ 6 ∷ 7 ∷ 8 ∷ 9 ∷ 10 ∷ 11 ∷ 12 ∷ 13 ∷ 14 ∷ 15 ∷ [])
+
+abbrev pub sixteenTiles : List Call
+sixteenTiles = fifteenTiles ++ (add transformText armText 500 ∷ linkUp 1000 ∷ [])
+
+abbrev pub lastCounted : List Call
+lastCounted = sixteenTiles ++ (message 1200 armBytes ∷ [])
+
+-- the latest clocks
+abbrev pub lateCalls : List Call
+lateCalls = add transformText armText 500 ∷ linkUp 0xFFFFFFFFFFFFFF00 ∷ []
+
+abbrev pub lateCounted : List Call
+lateCounted = lateCalls ++ (message 0xFFFFFFFFFFFFFF01 armBytes ∷ [])
+
 -- what looks at these tiles answer
 abbrev pub lookedAll : List Call → List ℕ → ℕ → List Answer
 lookedAll cs tiles now = map (λ i. answerTo (panelAfter cs) (look i now)) tiles
@@ -117,15 +143,35 @@ pub record Examples : Type 0 where
   pub green-again : lookedAll (twoCounted ++ (linkUp 1400 ∷ message 1500 armBytes ∷ [])) (1 ∷ []) 1500 ≡ shown green 0 armContent ∷ []
   pub green-kept : lookedAll (twoCounted ++ (add positionText (65 ∷ []) 1 ∷ linkDown 1299 ∷ [])) (1 ∷ 3 ∷ []) 1400
       ≡ shown green 100 (replicate 48 0) ∷ empty ∷ []
-  -- a refused message moves no clock: 14; 13
+  -- a message that is refused with 14 moves no clock
   pub refused-message : looked (add transformText armText 500 ∷ message 1500 armBytes ∷ []) 0 ≡ empty
-  pub unknown-message : lookedAll (add transformText (65 ∷ []) 500 ∷ linkUp 1000 ∷ message 1500 armBytes ∷ []) (0 ∷ []) 1200 ≡ empty ∷ []
+  -- two messages at one clock: the second is the last; a link call after a message at one clock
+  pub same-clock : lookedAll (oneCounted ++ (message 1200 zeroBytes ∷ [])) (1 ∷ []) 1200 ≡ shown green 0 (replicate 48 0) ∷ []
+  pub link-same-clock : lookedAll (oneCounted ++ (linkUp 1200 ∷ [])) (1 ∷ []) 1200 ∷ lookedAll (oneCounted ++ (linkDown 1200 ∷ [])) (1 ∷ []) 1200 ∷ []
+      ≡ (shown grey 0 armContent ∷ []) ∷ (shown grey 0 armContent ∷ []) ∷ []
+  -- a message for each of two tiles: each has its own value, age and hold time; a new link, and a message on it for the second
+  pub both-counted : lookedAll bothCounted (0 ∷ 1 ∷ []) 1400 ≡ shown green 200 armContent ∷ shown green 100 pointContent ∷ []
+  pub both-older : lookedAll bothCounted (0 ∷ 1 ∷ []) 61300 ≡ shown grey 60100 armContent ∷ shown green 60000 pointContent ∷ []
+  pub one-again : lookedAll (bothCounted ++ (linkUp 1400 ∷ message 1500 pointBytes ∷ [])) (0 ∷ 1 ∷ []) 1600
+      ≡ shown grey 400 armContent ∷ shown green 100 pointContent ∷ []
+  -- a message before the adding: refused, so the clock stays
+  pub before-adding : lookedAll (linkUp 1000 ∷ message 1200 armBytes ∷ add transformText armText 500 ∷ []) (0 ∷ []) 1000 ≡ empty ∷ []
+  -- a link down while the link is down
+  pub down-twice : lookedAll (add transformText armText 500 ∷ linkDown 1000 ∷ linkDown 1100 ∷ []) (0 ∷ []) 1099 ≡ refused 15 ∷ []
+  -- the last of sixteen tiles, and a link call after its message
+  pub last-counted : lookedAll lastCounted (0 ∷ 14 ∷ 15 ∷ 16 ∷ []) 1700 ≡ empty ∷ empty ∷ shown green 500 armContent ∷ refused 19 ∷ []
+  pub last-linked : lookedAll (lastCounted ++ (linkDown 1300 ∷ [])) (15 ∷ []) 1400 ≡ shown grey 200 armContent ∷ []
+  -- the latest clocks
+  pub late-counted : lookedAll lateCounted (0 ∷ []) 0xFFFFFFFFFFFFFFFF ≡ shown green 254 armContent ∷ []
+  pub late-clock : lookedAll lateCounted (0 ∷ []) 0xFFFFFFFFFFFFFF00 ≡ refused 15 ∷ []
   -- all at clock 0
   pub at-zero : lookedAll (add transformText armText 500 ∷ linkUp 0 ∷ message 0 armBytes ∷ []) (0 ∷ []) 0 ≡ shown green 0 armContent ∷ []
   -- the same in the code's words: three adds; a link call; the message; looks
   pub arm-added : addOf freshPanel transformText armText 500 .answer ≡ add-answer.Added 0
   pub arm-twice : addOf (panelAfter armBytesCalls) transformText armText 500 .answer ≡ add-answer.Refused 17
   pub arm-second : addOf (panelAfter armBytesCalls) positionText armText 500 .answer ≡ add-answer.Added 1
+  pub last-added : addOf (panelAfter fifteenTiles) transformText armText 500 .answer ≡ add-answer.Added 15
+  pub none-added : addOf (panelAfter sixteenTiles) positionText armText 500 .answer ≡ add-answer.Refused 18
   pub arm-late : linkOf true (panelAfter armBytesCalls) 1199 .number ≡ 15
   pub arm-counted : messageOf (panelAfter (add transformText armText 500 ∷ linkUp 1000 ∷ [])) 1200 armBytes .number ≡ 0
   pub arm-green : ArmLook 0 1700 (look-answer.Green 500) armValue
@@ -133,6 +179,8 @@ pub record Examples : Type 0 where
   pub arm-early : ArmLook 0 1199 (look-answer.Refused 15) zeroValue
   pub arm-not-there : ArmLook 1 1199 (look-answer.Refused 19) zeroValue
   pub arm-empty : lookOf (panelAfter (add transformText armText 500 ∷ [])) 0 0 .answer ≡ look-answer.Empty
+  -- the value of a POSITION of 24 bytes
+  pub point-value : lookOf (panelAfter bothCounted) 1 1400 .value ≡ record { bytes = pointContent ++ replicate 24 0; len = 24 }
   -- what these say
   pub add-answers : addAnswer (add-answer.Added 3) ∷ addAnswer (add-answer.Refused 17) ∷ callAnswer 0 ∷ callAnswer 15 ∷ []
       ≡ added 3 ∷ refused 17 ∷ accepted ∷ refused 15 ∷ []
