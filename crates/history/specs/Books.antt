@@ -110,11 +110,13 @@ module _ (R : Reader) where
         ≡ 18 ∷ 17 ∷ 17 ∷ 16 ∷ []
     -- another name is another tile; names of 19 and 20 bytes
     pub names : map (λ n. numberOn R (bookOf armTiles false 0) (add transformText n 500)) otherNames ≡ replicate 4 0
-    pub long-names : numbersOn (bookOf (armNamed (nameOf 19)) false 0) (add transformText (nameOf 20) 500 ∷ add transformText (nameOf 19) 500 ∷ [])
+    pub long-names : numbersOn (bookOf (armNamed (nameOf 19)) false 0)
+        (add transformText (nameOf 20) 500 ∷ add transformText (nameOf 19) 500 ∷ [])
         ≡ 0 ∷ 17 ∷ []
     -- link calls: 15, and nothing else, whether the link is up or down
     pub links : numbersOn (bookOf armTiles true 1200) (linkUp 1199 ∷ linkUp 1200 ∷ linkDown 1199 ∷ linkDown 1200 ∷ []) ≡ 15 ∷ 0 ∷ 15 ∷ 0 ∷ []
-    pub links-down : numbersOn (bookOf armTiles false 1200) (linkUp 1199 ∷ linkUp 1200 ∷ linkDown 1199 ∷ linkDown 1200 ∷ []) ≡ 15 ∷ 0 ∷ 15 ∷ 0 ∷ []
+    pub links-down : numbersOn (bookOf armTiles false 1200) (linkUp 1199 ∷ linkUp 1200 ∷ linkDown 1199 ∷ linkDown 1200 ∷ [])
+        ≡ 15 ∷ 0 ∷ 15 ∷ 0 ∷ []
     -- message calls while the link is up: 15; the reader's number; 12, also where no tile has its name and type; 13; it counts
     pub messages-up : numbersOn (bookOf armTiles true 1200)
         (message 1199 damagedBytes
@@ -141,13 +143,14 @@ module _ (R : Reader) where
     pub messages-point : map (λ e. numberOn R (bookOf (some e ∷ []) true 0) (message 0 pointBytes))
         (tileOf transformText pointText ∷ tileOf positionText (take 19 pointText) ∷ tileOf positionText pointText ∷ [])
         ≡ 13 ∷ 13 ∷ 0 ∷ []
-    -- it counts for the last of sixteen tiles
+    -- the last of sixteen tiles has its name and type
     pub messages-last : numberOn R (bookOf (tilesTo 15 ++ armTiles) true 0) (message 0 armBytes) ≡ 0
     -- looks: tile 15 of sixteen; 19; 19 before 15; 15. The link does not matter
     pub looks : numbersOn (bookOf (tilesTo 16) false 1200) (look 15 1200 ∷ look 16 1200 ∷ look 16 1199 ∷ look 15 1199 ∷ [])
         ≡ 0 ∷ 19 ∷ 19 ∷ 15 ∷ []
     -- all bits of a number count
-    pub wide-looks : numbersOn (bookOf armTiles true 0) (look 0 0 ∷ look 256 0 ∷ look 65536 0 ∷ look 4294967296 0 ∷ look 0xFFFFFFFFFFFFFFFF 0 ∷ [])
+    pub wide-looks : numbersOn (bookOf armTiles true 0)
+        (look 0 0 ∷ look 256 0 ∷ look 65536 0 ∷ look 4294967296 0 ∷ look 0xFFFFFFFFFFFFFFFF 0 ∷ [])
         ≡ 0 ∷ 19 ∷ 19 ∷ 19 ∷ 19 ∷ []
     -- what is noted: an add's tile, after the others; link and clock of a link call; the clock of a message that counts; nothing of a look
     pub added : next R (bookOf armTiles true 1200) (add positionText armName 60000)

@@ -33,7 +33,7 @@ use Rattle.panel.specs.declared.CallResult.{CallResult}
 use Rattle.panel.specs.Tiles.{valueOf, labelOf, countedFor, isTile}
 use Rattle.panel.specs.Calls.{labelIn, addFault, addOf, linkOf, readFault, messageFault, received, refusedCall, messageOf, lookFault, lookOf}
 use Rattle.panel.specs.Demand3.{answerTo, panelNext, panelAfter}
-use Rattle.panel.specs.Examples.{armText, FromArm, armTile, armBytesCalls, threeTiles, oneCounted, twoCounted, twoTiles, bothCounted, sixteenTiles, lastCounted, lateCalls, ArmLook, armValue, zeroValue, Examples}
+use Rattle.panel.specs.Examples.{armText, FromArm, armTile, armBytesCalls, threeTiles, oneCounted, twoCounted, twoTiles, bothCounted, sixteenTiles, lastCounted, addedLate, lateCalls, ArmLook, armValue, zeroValue, Examples}
 use Rattle.panel.proofs.Laws.Calls.{message-accepted, read-whole}
 use Rattle.history.proofs.Laws.Readings.{begins-one, one-step}
 use Rattle.panel.proofs.Laws.Contents.{bytesOf, pose-short, value-bytes}
@@ -174,6 +174,14 @@ last-panel : panelAfter lastCounted ≡ messageRead (panelAfter sixteenTiles) 12
 unfolding panelAfter
 last-panel = ap (λ (r : CallResult). r .panel) (arm-sent (panelAfter sixteenTiles) 1200)
 
+-- and after one that no tile was there for, and the adding of its tile
+abbrev addedPanel : Panel
+addedPanel = panelNext (messageRead (panelAfter (linkUp 1000 ∷ [])) 1200 armBytes armAnswer .panel) (add transformText armText 500)
+
+added-panel : panelAfter addedLate ≡ addedPanel
+unfolding panelAfter
+added-panel = ap (λ (r : CallResult). panelNext (r .panel) (add transformText armText 500)) (arm-sent (panelAfter (linkUp 1000 ∷ [])) 1200)
+
 -- what looks at tiles answer on a panel
 abbrev onPanel : List ℕ → ℕ → Panel → List Answer
 onPanel tiles now p = map (λ i. answerTo p (look i now)) tiles
@@ -218,6 +226,9 @@ examples =
           ∙ ap (λ (r : CallResult). onPanel (1 ∷ []) 1500 (r .panel)) (arm-sent (panelNext twoPanel (linkUp 1400)) 1500);
       green-kept = ap (λ (p : Panel). onPanel (1 ∷ 3 ∷ []) 1400 (panelNext (panelNext p (add positionText (65 ∷ []) 1)) (linkDown 1299))) two-panel;
       refused-message = down-sent;
+      same-message =
+          ap (λ (p : Panel). onPanel (1 ∷ []) 1400 (messageOf p 1300 armBytes .panel)) one-panel
+          ∙ ap (λ (r : CallResult). onPanel (1 ∷ []) 1400 (r .panel)) (arm-sent onePanel 1300);
       same-clock =
           ap (λ (p : Panel). onPanel (1 ∷ []) 1200 (messageOf p 1200 zeroBytes .panel)) one-panel
           ∙ ap (λ (r : CallResult). onPanel (1 ∷ []) 1200 (r .panel)) (zero-sent onePanel 1200);
@@ -225,12 +236,14 @@ examples =
           ap (λ (p : Panel). onPanel (1 ∷ []) 1200 (panelNext p (linkUp 1200)) ∷ onPanel (1 ∷ []) 1200 (panelNext p (linkDown 1200)) ∷ []) one-panel;
       both-counted = ap (onPanel (0 ∷ 1 ∷ []) 1400) both-panel;
       both-older = ap (onPanel (0 ∷ 1 ∷ []) 61300) both-panel;
+      both-linked = ap (λ (p : Panel). onPanel (0 ∷ 1 ∷ []) 1400 (panelNext p (linkUp 1400))) both-panel;
       one-again =
           ap (λ (p : Panel). onPanel (0 ∷ 1 ∷ []) 1600 (messageOf (panelNext p (linkUp 1400)) 1500 pointBytes .panel)) both-panel
           ∙ ap (λ (r : CallResult). onPanel (0 ∷ 1 ∷ []) 1600 (r .panel)) (point-sent (panelNext bothPanel (linkUp 1400)) 1500);
-      before-adding =
-          ap (λ (r : CallResult). onPanel (0 ∷ []) 1000 (panelNext (r .panel) (add transformText armText 500)))
-          (arm-sent (panelAfter (linkUp 1000 ∷ [])) 1200);
+      before-adding = ap (onPanel (0 ∷ []) 1000) added-panel;
+      after-adding =
+          ap (λ (p : Panel). onPanel (0 ∷ []) 1300 (messageOf p 1100 armBytes .panel)) added-panel
+          ∙ ap (λ (r : CallResult). onPanel (0 ∷ []) 1300 (r .panel)) (arm-sent addedPanel 1100);
       down-twice = refl;
       last-counted = ap (onPanel (0 ∷ 14 ∷ 15 ∷ 16 ∷ []) 1700) last-panel;
       last-linked = ap (λ (p : Panel). onPanel (15 ∷ []) 1400 (panelNext p (linkDown 1300))) last-panel;

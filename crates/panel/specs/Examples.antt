@@ -89,6 +89,10 @@ sixteenTiles = fifteenTiles ++ (add transformText armText 500 ∷ linkUp 1000 �
 abbrev pub lastCounted : List Call
 lastCounted = sixteenTiles ++ (message 1200 armBytes ∷ [])
 
+-- a tile that is added on a link that is up, after a message for it
+abbrev pub addedLate : List Call
+addedLate = linkUp 1000 ∷ message 1200 armBytes ∷ add transformText armText 500 ∷ []
+
 -- the latest clocks
 abbrev pub lateCalls : List Call
 lateCalls = add transformText armText 500 ∷ linkUp 0xFFFFFFFFFFFFFF00 ∷ []
@@ -145,17 +149,23 @@ pub record Examples : Type 0 where
       ≡ shown green 100 (replicate 48 0) ∷ empty ∷ []
   -- a message that is refused with 14 moves no clock
   pub refused-message : looked (add transformText armText 500 ∷ message 1500 armBytes ∷ []) 0 ≡ empty
-  -- two messages at one clock: the second is the last; a link call after a message at one clock
+  -- the same message again; two messages at one clock: the second is the last; a link call after a message at one clock
+  pub same-message : lookedAll (oneCounted ++ (message 1300 armBytes ∷ [])) (1 ∷ []) 1400 ≡ shown green 100 armContent ∷ []
   pub same-clock : lookedAll (oneCounted ++ (message 1200 zeroBytes ∷ [])) (1 ∷ []) 1200 ≡ shown green 0 (replicate 48 0) ∷ []
-  pub link-same-clock : lookedAll (oneCounted ++ (linkUp 1200 ∷ [])) (1 ∷ []) 1200 ∷ lookedAll (oneCounted ++ (linkDown 1200 ∷ [])) (1 ∷ []) 1200 ∷ []
+  pub link-same-clock : lookedAll (oneCounted ++ (linkUp 1200 ∷ [])) (1 ∷ []) 1200
+      ∷ lookedAll (oneCounted ++ (linkDown 1200 ∷ [])) (1 ∷ []) 1200
+      ∷ []
       ≡ (shown grey 0 armContent ∷ []) ∷ (shown grey 0 armContent ∷ []) ∷ []
-  -- a message for each of two tiles: each has its own value, age and hold time; a new link, and a message on it for the second
+  -- a message for each of two tiles: each has its own value, age and hold time; a new link; a message on it for the second
   pub both-counted : lookedAll bothCounted (0 ∷ 1 ∷ []) 1400 ≡ shown green 200 armContent ∷ shown green 100 pointContent ∷ []
   pub both-older : lookedAll bothCounted (0 ∷ 1 ∷ []) 61300 ≡ shown grey 60100 armContent ∷ shown green 60000 pointContent ∷ []
+  pub both-linked : lookedAll (bothCounted ++ (linkUp 1400 ∷ [])) (0 ∷ 1 ∷ []) 1400
+      ≡ shown grey 200 armContent ∷ shown grey 100 pointContent ∷ []
   pub one-again : lookedAll (bothCounted ++ (linkUp 1400 ∷ message 1500 pointBytes ∷ [])) (0 ∷ 1 ∷ []) 1600
       ≡ shown grey 400 armContent ∷ shown green 100 pointContent ∷ []
-  -- a message before the adding: refused, so the clock stays
-  pub before-adding : lookedAll (linkUp 1000 ∷ message 1200 armBytes ∷ add transformText armText 500 ∷ []) (0 ∷ []) 1000 ≡ empty ∷ []
+  -- a message before the adding: it is refused, and the clock stays; one after it, at an earlier clock
+  pub before-adding : lookedAll addedLate (0 ∷ []) 1000 ≡ empty ∷ []
+  pub after-adding : lookedAll (addedLate ++ (message 1100 armBytes ∷ [])) (0 ∷ []) 1300 ≡ shown green 200 armContent ∷ []
   -- a link down while the link is down
   pub down-twice : lookedAll (add transformText armText 500 ∷ linkDown 1000 ∷ linkDown 1100 ∷ []) (0 ∷ []) 1099 ≡ refused 15 ∷ []
   -- the last of sixteen tiles, and a link call after its message
@@ -166,7 +176,7 @@ pub record Examples : Type 0 where
   pub late-clock : lookedAll lateCounted (0 ∷ []) 0xFFFFFFFFFFFFFF00 ≡ refused 15 ∷ []
   -- all at clock 0
   pub at-zero : lookedAll (add transformText armText 500 ∷ linkUp 0 ∷ message 0 armBytes ∷ []) (0 ∷ []) 0 ≡ shown green 0 armContent ∷ []
-  -- the same in the code's words: three adds; a link call; the message; looks
+  -- the same in the code's words: adds; a link call; the message; looks
   pub arm-added : addOf freshPanel transformText armText 500 .answer ≡ add-answer.Added 0
   pub arm-twice : addOf (panelAfter armBytesCalls) transformText armText 500 .answer ≡ add-answer.Refused 17
   pub arm-second : addOf (panelAfter armBytesCalls) positionText armText 500 .answer ≡ add-answer.Added 1
