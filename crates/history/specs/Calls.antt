@@ -26,7 +26,7 @@ pub record Link : Type 0 where
   pub up : Bool
   pub clock : ℕ
 
--- a new tile; a new link; a message, which counts; nothing
+-- a new tile; the link as it is from then on; a message, which counts; nothing
 pub data Note : Type 0 where
   adding : Entry → Note
   linking : Link → Note

@@ -22,7 +22,7 @@ abbrev pub holdTimeOf : Option Entry → ℕ
 holdTimeOf none = 0
 holdTimeOf (some e) = e .holdTime
 
--- the value that a message gives a tile: its content (rule 7.7)
+-- the value that a message gives a tile: its content, whichever tile it is (rule 7.7)
 abbrev pub valueFor : Message → Entry → List ℕ
 valueFor m e = tree.encode (m .content)
 

@@ -72,7 +72,7 @@ tileFault o = cond (isThere o) 0 19
 abbrev pub isFull : Summary → Bool
 isFull b = leb 16 (countOf (b .tiles))
 
--- does the message count for some tile?
+-- is there a tile whose name and type the message carries (check 13)?
 abbrev pub countsOn : List (Option Entry) → Message → Bool
 countsOn ts m = any (passes (carries m)) ts
 
@@ -91,8 +91,8 @@ noted b (receiving t s) = record { tiles = b .tiles; link = record { up = b .lin
 noted b nothing = b
 
 module _ (R : Reader) where
-  -- the number that a call's checks on the book give (rules 7.3 to 7.7), where the table has a place for a further tile or not. 0 means
-  -- that the call is accepted; a message then counts
+  -- the number that a call's checks on the book give (rules 7.3 to 7.7), where it is given whether the table is full. 0 means that the call
+  -- is accepted; a message then counts
   abbrev pub numberBy : Bool → Summary → Call → ℕ
   numberBy full b (add t n h) = orElse (allowedFault t n h) (orElse (cond (any (passes (isOf t n)) (b .tiles)) 17 0) (cond full 18 0))
   numberBy full b (linkUp t) = clockFault (b .link .clock) t

@@ -43,7 +43,7 @@ pub record Claim (R : Reader) (cs : List Call) : Type 0 where
 pub record Demand3 : Type 0 where
   -- with any reader (rule 1.4); there is one, and any two agree on all bytes
   pub readers : Readers
-  -- what the claim says of an answer leaves one; a tile's messages stand after its adding; tiles are numbered in order
+  -- the book and the history leave one answer to each call; a tile's messages stand after its adding; tiles are numbered in order
   pub words : Words
   pub claim : (R : Reader) (cs : List Call) → Each OfBytes cs → Claim R cs
   -- a refused call gives the panel back unchanged, and so does every look, for every panel

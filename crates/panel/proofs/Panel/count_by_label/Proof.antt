@@ -1,11 +1,11 @@
--- `panel::Panel::count_pose` meets its contract: the laws of a pose that no tile is for, and of one that counts.
+-- `panel::Panel::count_by_label` meets its contract: the laws of a pose that no tile is for, and of one that counts.
 use mathlib.Core.Path.{sym, ap, ap₂, _∙_}
 use borrow.Author.Tests.{not-true, not-false}
 use borrow.Author.Needs.{needs}
 use Rattle.panel.specs.Tiles.{labelOf, valueOf}
-use Rattle.panel.proofs.Laws.Calls.{pose-unknown, pose-done}
-use Rattle.panel.proofs.Panel.count_pose.Statement.{statement}
-use Rattle.panel.proofs.Panel.count_pose.Tie as tie
+use Rattle.panel.proofs.Laws.Calls.{label-unknown, label-done}
+use Rattle.panel.proofs.Panel.count_by_label.Statement.{statement}
+use Rattle.panel.proofs.Panel.count_by_label.Tie as tie
 
 type-text-requires : tie.Need-type-text-requires
 type-text-requires c κs = search needs
@@ -28,7 +28,7 @@ returns c =
     let l = c .before .before .before .before in
     let a = l .before .before .before .before .args in
     c .refused-call .ensures
-    ∙ pose-unknown (a .self) (a .clock) (a .bytes .now) (a .read)
+    ∙ label-unknown (a .self) (a .clock) (a .bytes .now) (a .read)
     _ (l .label-of .ensures ∙ ap₂ labelOf (l .before .before .type-text .ensures) (l .before .device-name .ensures))
     (sym (h .ensures) ∙ not-true (h .result) (c .before .if1 .taken))
 
@@ -47,13 +47,13 @@ returns-2 c =
     let h = d .before .before .before .before .has in
     let l = d .before .before .before .before .before .before in
     let a = l .before .before .before .before .args in
-    pose-done (a .self) (a .clock) (a .bytes .now) (a .read)
+    label-done (a .self) (a .clock) (a .bytes .now) (a .read)
     _ (l .label-of .ensures ∙ ap₂ labelOf (l .before .before .type-text .ensures) (l .before .device-name .ensures))
     (sym (h .ensures) ∙ not-false (h .result) (d .before .before .before .if1 .left))
     _ (d .before .value-of .ensures ∙ ap valueOf (d .before .before .content .ensures)) _ (d .count-for-all .ensures)
 
-pub count-pose-spec : {M : Type 1} → statement M
-count-pose-spec =
+pub count-by-label-spec : {M : Type 1} → statement M
+count-by-label-spec =
     tie.close
     (tie.spec
     type-text-requires
