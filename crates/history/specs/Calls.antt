@@ -26,6 +26,10 @@ pub record Link : Type 0 where
   pub up : Bool
   pub clock : ℕ
 
+-- the link with another clock
+abbrev pub atClock : ℕ → Link → Link
+atClock t l = record { up = l .up; clock = t }
+
 -- a new tile; the link as it is from then on; a message, which counts; nothing
 pub data Note : Type 0 where
   adding : Entry → Note

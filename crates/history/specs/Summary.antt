@@ -13,7 +13,7 @@ use Rattle.fields.specs.Checks.{orElse}
 use Rattle.content.specs.Kinds.{transformText, positionText}
 use Rattle.content.specs.Tree.{typeText}
 use Rattle.message.specs.Message.{Message}
-use Rattle.history.specs.Calls.{Call, add, linkUp, linkDown, message, look, Entry, Link, Note, adding, linking, receiving, nothing, noteOf}
+use Rattle.history.specs.Calls.{Call, add, linkUp, linkDown, message, look, Entry, Link, atClock, Note, adding, linking, receiving, nothing, noteOf}
 use Rattle.history.specs.Places.{placeAt, passes, isThere, filled, countOf}
 use Rattle.history.specs.Reading.{Reading, noMessage, leftOver, oneMessage, Reader}
 
@@ -87,7 +87,7 @@ readingNumber ts (oneMessage m) = cond (countsOn ts m) 0 13
 abbrev pub noted : Summary → Note → Summary
 noted b (adding e) = record { tiles = filled e (b .tiles); link = b .link }
 noted b (linking l) = record { tiles = b .tiles; link = l }
-noted b (receiving t s) = record { tiles = b .tiles; link = record { up = b .link .up; clock = t } }
+noted b (receiving t s) = record { tiles = b .tiles; link = atClock t (b .link) }
 noted b nothing = b
 
 module _ (R : Reader) where

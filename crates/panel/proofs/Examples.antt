@@ -31,7 +31,7 @@ use Rattle.panel.specs.declared.LookAnswer.the-variants as look-answer
 use Rattle.panel.specs.declared.Panel.{Panel}
 use Rattle.panel.specs.declared.CallResult.{CallResult}
 use Rattle.panel.specs.Tiles.{valueOf, labelOf, countedFor, isTile}
-use Rattle.panel.specs.Calls.{labelIn, addFault, addOf, linkOf, readFault, messageFault, received, refusedCall, messageOf, lookFault, lookOf}
+use Rattle.panel.specs.Calls.{labelIn, addFault, addOf, linkOf, readFault, messageFault, atClock, received, refusedCall, messageOf, lookFault, lookOf}
 use Rattle.panel.specs.Demand3.{answerTo, panelNext, panelAfter}
 use Rattle.panel.specs.Examples.{armText, FromArm, armTile, armBytesCalls, threeTiles, oneCounted, twoCounted, twoTiles, bothCounted, sixteenTiles, lastCounted, addedLate, lateCalls, ArmLook, armValue, zeroValue, Examples}
 use Rattle.panel.proofs.Laws.Calls.{message-accepted, read-whole}
@@ -49,7 +49,7 @@ linkedPanel = panelAfter (add transformText armText 500 ∷ linkUp 1000 ∷ [])
 
 -- a panel after a message from Arm with this clock and value
 abbrev countedPanel : Panel → ℕ → Value → Panel
-countedPanel p t v = record { tiles = map (countedFor arm t v) (p .tiles); link = record { up = p .link .up; clock = t } }
+countedPanel p t v = record { tiles = map (countedFor arm t v) (p .tiles); link = atClock t (p .link) }
 
 -- a panel on which such a message counts
 record Counts (p : Panel) (t : ℕ) : Type 0 where
@@ -85,7 +85,7 @@ module _ (m : Message) (f : FromArm m) where
     counted-panel : panelNext p (message t (encode m)) ≡ countedPanel p t (valueOf value)
     counted-panel =
         ap (λ (r : CallResult). r .panel) (sym (message-accepted p t (encode m) message-fault))
-        ∙ ap₂ (λ (l : Label) (v : Value). record { tiles = map (countedFor l t v) (p .tiles); link = record { up = p .link .up; clock = t } })
+        ∙ ap₂ (λ (l : Label) (v : Value). record { tiles = map (countedFor l t v) (p .tiles); link = atClock t (p .link) })
         label-is (begun-value (encode m) m (armTile 500) front)
 
     -- what a look shows after it and the next calls
@@ -186,6 +186,17 @@ added-panel = ap (λ (r : CallResult). panelNext (r .panel) (add transformText a
 abbrev onPanel : List ℕ → ℕ → Panel → List Answer
 onPanel tiles now p = map (λ i. answerTo p (look i now)) tiles
 
+-- what they answer after the calls f and a message, where the bytes are read so, and the panel before them is q
+then-sent : (tiles : List ℕ) (now : ℕ) (f : Panel → Panel) (t : ℕ) (s : List ℕ) (a : Read) → readOf s ≡ a → (p q : Panel) → p ≡ q
+    → onPanel tiles now (messageOf (f p) t s .panel) ≡ onPanel tiles now (messageRead (f q) t s a .panel)
+then-sent tiles now f t s a e p q h =
+    ap (λ (x : Panel). onPanel tiles now (messageOf (f x) t s .panel)) h
+    ∙ ap (λ (r : CallResult). onPanel tiles now (r .panel)) (sent s a e (f q) t)
+
+then-arm : (tiles : List ℕ) (now : ℕ) (f : Panel → Panel) (t : ℕ) (p q : Panel) → p ≡ q
+    → onPanel tiles now (messageOf (f p) t armBytes .panel) ≡ onPanel tiles now (messageRead (f q) t armBytes armAnswer .panel)
+then-arm tiles now f t = then-sent tiles now f t armBytes armAnswer (samples .arm .read)
+
 -- a message on a link that is down is not read
 down-sent : answerTo (panelAfter (add transformText armText 500 ∷ message 1500 armBytes ∷ [])) (look 0 0) ≡ empty
 unfolding panelAfter addOf addFault messageOf messageFault allowedFault isAllowed clockFault lookOf lookFault same sized any isText all
@@ -221,37 +232,30 @@ examples =
       counted-long-ago = ap (λ (p : Panel). onPanel (1 ∷ []) 4294968497 p ∷ onPanel (1 ∷ []) 0xFFFFFFFFFFFFFFFF p ∷ []) one-panel;
       second-counted = ap (onPanel (0 ∷ 1 ∷ 2 ∷ []) 1400) two-panel;
       second-clock = ap (onPanel (0 ∷ 1 ∷ []) 1299) two-panel;
-      green-again =
-          ap (λ (p : Panel). onPanel (1 ∷ []) 1500 (messageOf (panelNext p (linkUp 1400)) 1500 armBytes .panel)) two-panel
-          ∙ ap (λ (r : CallResult). onPanel (1 ∷ []) 1500 (r .panel)) (arm-sent (panelNext twoPanel (linkUp 1400)) 1500);
+      green-again = then-arm (1 ∷ []) 1500 (λ p. panelNext p (linkUp 1400)) 1500 (panelAfter twoCounted) twoPanel two-panel;
+      green-after-down =
+          then-arm (1 ∷ []) 1600 (λ p. panelNext (panelNext p (linkDown 1400)) (linkUp 1450)) 1500 (panelAfter twoCounted) twoPanel two-panel;
       green-kept = ap (λ (p : Panel). onPanel (1 ∷ 3 ∷ []) 1400 (panelNext (panelNext p (add positionText (65 ∷ []) 1)) (linkDown 1299))) two-panel;
       refused-message = down-sent;
-      same-message =
-          ap (λ (p : Panel). onPanel (1 ∷ []) 1400 (messageOf p 1300 armBytes .panel)) one-panel
-          ∙ ap (λ (r : CallResult). onPanel (1 ∷ []) 1400 (r .panel)) (arm-sent onePanel 1300);
-      same-clock =
-          ap (λ (p : Panel). onPanel (1 ∷ []) 1200 (messageOf p 1200 zeroBytes .panel)) one-panel
-          ∙ ap (λ (r : CallResult). onPanel (1 ∷ []) 1200 (r .panel)) (zero-sent onePanel 1200);
+      same-message = then-arm (1 ∷ []) 1400 (λ p. p) 1300 (panelAfter oneCounted) onePanel one-panel;
+      same-clock = then-sent (1 ∷ []) 1200 (λ p. p) 1200 zeroBytes zeroAnswer (samples .zeros) (panelAfter oneCounted) onePanel one-panel;
       link-same-clock =
           ap (λ (p : Panel). onPanel (1 ∷ []) 1200 (panelNext p (linkUp 1200)) ∷ onPanel (1 ∷ []) 1200 (panelNext p (linkDown 1200)) ∷ []) one-panel;
       both-counted = ap (onPanel (0 ∷ 1 ∷ []) 1400) both-panel;
       both-older = ap (onPanel (0 ∷ 1 ∷ []) 61300) both-panel;
       both-linked = ap (λ (p : Panel). onPanel (0 ∷ 1 ∷ []) 1400 (panelNext p (linkUp 1400))) both-panel;
       one-again =
-          ap (λ (p : Panel). onPanel (0 ∷ 1 ∷ []) 1600 (messageOf (panelNext p (linkUp 1400)) 1500 pointBytes .panel)) both-panel
-          ∙ ap (λ (r : CallResult). onPanel (0 ∷ 1 ∷ []) 1600 (r .panel)) (point-sent (panelNext bothPanel (linkUp 1400)) 1500);
+          then-sent (0 ∷ 1 ∷ []) 1600 (λ p. panelNext p (linkUp 1400)) 1500 pointBytes pointAnswer (samples .point .read) (panelAfter bothCounted)
+          bothPanel both-panel;
       before-adding = ap (onPanel (0 ∷ []) 1000) added-panel;
-      after-adding =
-          ap (λ (p : Panel). onPanel (0 ∷ []) 1300 (messageOf p 1100 armBytes .panel)) added-panel
-          ∙ ap (λ (r : CallResult). onPanel (0 ∷ []) 1300 (r .panel)) (arm-sent addedPanel 1100);
+      after-adding = then-arm (0 ∷ []) 1300 (λ p. p) 1100 (panelAfter addedLate) addedPanel added-panel;
       down-twice = refl;
       last-counted = ap (onPanel (0 ∷ 14 ∷ 15 ∷ 16 ∷ []) 1700) last-panel;
       last-linked = ap (λ (p : Panel). onPanel (15 ∷ []) 1400 (panelNext p (linkDown 1300))) last-panel;
       late-counted = ap (λ (r : CallResult). onPanel (0 ∷ []) 0xFFFFFFFFFFFFFFFF (r .panel)) (arm-sent (panelAfter lateCalls) 0xFFFFFFFFFFFFFF01);
       late-clock = ap (λ (r : CallResult). onPanel (0 ∷ []) 0xFFFFFFFFFFFFFF00 (r .panel)) (arm-sent (panelAfter lateCalls) 0xFFFFFFFFFFFFFF01);
       at-zero =
-          ap (λ (r : CallResult). onPanel (0 ∷ []) 0 (r .panel))
-          (arm-sent (panelAfter (add transformText armText 500 ∷ linkUp 0 ∷ [])) 0);
+          ap (λ (r : CallResult). onPanel (0 ∷ []) 0 (r .panel)) (arm-sent (panelAfter (add transformText armText 500 ∷ linkUp 0 ∷ [])) 0);
       arm-added = refl;
       arm-twice = ap (λ (p : Panel). addOf p transformText armText 500 .answer) arm-panel;
       arm-second = ap (λ (p : Panel). addOf p positionText armText 500 .answer) arm-panel;

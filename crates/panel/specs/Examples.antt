@@ -143,8 +143,10 @@ pub record Examples : Type 0 where
   -- the second message: its value and its age; the clock is that of the call
   pub second-counted : lookedAll twoCounted (0 ∷ 1 ∷ 2 ∷ []) 1400 ≡ empty ∷ shown green 100 (replicate 48 0) ∷ empty ∷ []
   pub second-clock : lookedAll twoCounted (0 ∷ 1 ∷ []) 1299 ≡ refused 15 ∷ refused 15 ∷ []
-  -- a new link and a message on it; a fourth tile and a refused link call change no colour
+  -- a new link and a message on it, also after the link was down; a fourth tile and a refused link call change no colour
   pub green-again : lookedAll (twoCounted ++ (linkUp 1400 ∷ message 1500 armBytes ∷ [])) (1 ∷ []) 1500 ≡ shown green 0 armContent ∷ []
+  pub green-after-down : lookedAll (twoCounted ++ (linkDown 1400 ∷ linkUp 1450 ∷ message 1500 armBytes ∷ [])) (1 ∷ []) 1600
+      ≡ shown green 100 armContent ∷ []
   pub green-kept : lookedAll (twoCounted ++ (add positionText (65 ∷ []) 1 ∷ linkDown 1299 ∷ [])) (1 ∷ 3 ∷ []) 1400
       ≡ shown green 100 (replicate 48 0) ∷ empty ∷ []
   -- a message that is refused with 14 moves no clock

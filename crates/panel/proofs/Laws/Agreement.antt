@@ -68,15 +68,15 @@ place-is x (some y) t n w a =
 
 -- ---- the table
 
-pub record LinkAgrees (k : Link) (l : history.Link) : Type 0 where
-  pub up : k .up ≡ l .up
-  pub clock : k .clock ≡ l .clock
+-- the link as a room has it
+abbrev pub roomLink : Link → history.Link
+roomLink k = record { up = k .up; clock = k .clock }
 
 abbrev pub TilesAgree : List Tile → List (Option RoomTile) → Type 0
 TilesAgree xs ps = (i : ℕ) → TileAgrees (getD xs i noTile) (placeAt ps i)
 
 pub record Agrees (p : Panel) (m : Room) : Type 0 where
-  pub link : LinkAgrees (p .link) (m .link)
+  pub link : roomLink (p .link) ≡ m .link
   pub size : length (p .tiles) ≡ 16
   pub places : TilesAgree (p .tiles) (m .tiles)
 
@@ -96,4 +96,4 @@ free-at (suc n) zero = record { used = refl; counted = refl }
 free-at (suc n) (suc i) = free-at n i
 
 pub fresh-agrees : Agrees freshPanel freshRoom
-fresh-agrees = record { link = record { up = refl; clock = refl }; size = refl; places = free-at 16 }
+fresh-agrees = record { link = refl; size = refl; places = free-at 16 }

@@ -186,7 +186,7 @@ module _ (R : Reader) (p : Panel) (m : Room) (T : Agrees p m) where
   link-agrees : (up : Bool) (t : ℕ) → Agrees (linked p up t) (changed R m (history.linking (record { up = up; clock = t })))
   link-agrees up t =
       record {
-        link = record { up = refl; clock = refl };
+        link = refl;
         size = length-map (p .tiles) relinked ∙ T .size;
         places = changed-agree relinked room.relinked refl relink-agrees (p .tiles) (m .tiles) (T .places);
       }
@@ -205,7 +205,7 @@ module _ (R : Reader) (p : Panel) (m : Room) (T : Agrees p m) where
       let u = zero-else (cond (m .link .up) 0 14) _ (y .1) in
       let n = one-of s (bookOf m .tiles) (R .read s) bs (R .reads s bs) (u .1) in
       record {
-        link = record { up = T .link .up; clock = refl };
+        link = ap (history.atClock t) (T .link);
         size = length-map (p .tiles) (countedFor (labelIn s (readOf s)) t (valueIn s (readOf s))) ∙ T .size;
         places =
             changed-agree (countedFor (labelIn s (readOf s)) t (valueIn s (readOf s))) (countedBy t (R .read s)) refl

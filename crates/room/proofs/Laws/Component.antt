@@ -10,7 +10,7 @@ use lib.Dec.{eqb}
 use borrow.Author.Tests.{eqb-true, eq-eqb, ne-eqb}
 use Rattle.fields.proofs.Laws.Tests.{by-zero, cond-cases, true-false}
 use Rattle.message.specs.Message.{Message}
-use Rattle.history.specs.Calls.{Call, Entry, Note, adding, linking, receiving, nothing, noteOf}
+use Rattle.history.specs.Calls.{Call, Entry, atClock, Note, adding, linking, receiving, nothing, noteOf}
 use Rattle.history.specs.Places.{passes, firstFree}
 use Rattle.history.specs.Reading.{Reading, noMessage, leftOver, oneMessage, Reader}
 use Rattle.history.specs.Summary.{Summary, tileAt, carries, noted, numberOn, summaryOf}
@@ -68,7 +68,7 @@ module _ (R : Reader) where
   book-changed m (linking l) =
       ap (λ (ts : List (Option Entry)). record { tiles = ts; link = l }) (same-entries relinked (λ x. refl) (m .tiles))
   book-changed m (receiving t s) =
-      ap (λ (ts : List (Option Entry)). record { tiles = ts; link = record { up = m .link .up; clock = t } })
+      ap (λ (ts : List (Option Entry)). record { tiles = ts; link = atClock t (m .link) })
       (same-entries (countedBy t (R .read s)) (kept-entry t (R .read s)) (m .tiles))
   book-changed m nothing = refl
 

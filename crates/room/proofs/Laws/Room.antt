@@ -5,7 +5,7 @@ use mathlib.Core.List.{List, [], foldl}
 use mathlib.Core.Option.{Option, none, some}
 use lib.Dec.{eqb, leb}
 use Rattle.message.specs.Message.{Message}
-use Rattle.history.specs.Calls.{Call, add, linkUp, linkDown, message, look, Entry, Link, Note, adding, linking, receiving, nothing, noteOf, green, grey, Answer, refused, accepted, added, empty, shown}
+use Rattle.history.specs.Calls.{Call, add, linkUp, linkDown, message, look, Entry, Link, atClock, Note, adding, linking, receiving, nothing, noteOf, green, grey, Answer, refused, accepted, added, empty, shown}
 use Rattle.history.specs.Places.{placeAt, firstFree, filled}
 use Rattle.history.specs.Reading.{Reading, noMessage, leftOver, oneMessage, Reader}
 use Rattle.history.specs.Summary.{Summary, carries, numberOn}
@@ -74,8 +74,7 @@ module _ (R : Reader) where
   abbrev pub changed : Room → Note → Room
   changed m (adding e) = record { tiles = filled (newTile e) (m .tiles); link = m .link }
   changed m (linking l) = record { tiles = changedEach relinked (m .tiles); link = l }
-  changed m (receiving t s) =
-      record { tiles = changedEach (countedBy t (R .read s)) (m .tiles); link = record { up = m .link .up; clock = t } }
+  changed m (receiving t s) = record { tiles = changedEach (countedBy t (R .read s)) (m .tiles); link = atClock t (m .link) }
   changed m nothing = m
 
   -- what it answers

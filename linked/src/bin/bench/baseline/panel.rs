@@ -48,6 +48,11 @@ pub struct CallResult {
     pub number: u8,
 }
 
+struct Judged {
+    number: u8,
+    read: message::Answer,
+}
+
 pub enum LookAnswer {
     Empty,
     Green(u64),
@@ -156,6 +161,37 @@ fn is_allowed(type_text: &[u8], name: &[u8], hold_time: u64) -> bool {
     is_pose && is_tile_name && (1..=60_000).contains(&hold_time)
 }
 
+fn unread(number: u8) -> Judged {
+    Judged {
+        number,
+        read: message::read(b""),
+    }
+}
+
+fn bytes_fault(bytes: &[u8], read: &message::Answer) -> u8 {
+    if read.number != 0 {
+        return read.number;
+    }
+    if read.step < bytes.len() {
+        return 12;
+    }
+    0
+}
+
+fn judge(link: Link, clock: u64, bytes: &[u8]) -> Judged {
+    if clock < link.clock {
+        return unread(15);
+    }
+    if !link.up {
+        return unread(14);
+    }
+    let read = message::read(bytes);
+    Judged {
+        number: bytes_fault(bytes, &read),
+        read,
+    }
+}
+
 fn refused_call(panel: Panel, number: u8) -> CallResult {
     CallResult { panel, number }
 }
@@ -219,32 +255,24 @@ impl Panel {
         }
     }
 
-    pub fn message(self, clock: u64, bytes: &[u8]) -> CallResult {
-        if clock < self.link.clock {
-            return refused_call(self, 15);
-        }
-        if !self.link.up {
-            return refused_call(self, 14);
-        }
-        let read = message::read(bytes);
-        if read.number != 0 {
-            return refused_call(self, read.number);
-        }
-        if read.step < bytes.len() {
-            return refused_call(self, 12);
-        }
+    fn count_by_label(self, clock: u64, bytes: &[u8], read: message::Answer) -> CallResult {
         let label = label_of(read.type_text(bytes), read.device_name(bytes));
         if !has(self.tiles, label) {
             return refused_call(self, 13);
         }
         let value = value_of(read.content(bytes));
-        CallResult {
-            panel: Panel {
-                tiles: self.tiles.map(|tile| count_for(tile, label, clock, value)),
-                link: Link { up: true, clock },
-            },
-            number: 0,
+        let mut panel = self;
+        panel.tiles = self.tiles.map(|tile| count_for(tile, label, clock, value));
+        panel.link.clock = clock;
+        CallResult { panel, number: 0 }
+    }
+
+    pub fn message(self, clock: u64, bytes: &[u8]) -> CallResult {
+        let judged = judge(self.link, clock, bytes);
+        if judged.number != 0 {
+            return refused_call(self, judged.number);
         }
+        self.count_by_label(clock, bytes, judged.read)
     }
 
     pub fn look(self, tile: usize, clock: u64) -> LookResult {
