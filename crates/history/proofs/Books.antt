@@ -76,11 +76,16 @@ module _ (R : Reader) where
       record {
         fifteen = refl;
         sixteen = refl;
+        other-hold-time = refl;
+        types = refl;
+        both-types = refl;
         names = refl;
         long-names = refl;
+        last-byte = refl;
         links = refl;
         links-down = refl;
         messages-up = rw (r .short, r .damaged, r .more, r .other-more, r .probe, r .arm) refl;
+        messages-refused = λ ts s b z. rw (r .refused s b z) refl;
         messages-down = refl;
         messages-unknown = rw (r .arm) refl;
         messages-named = rw (r .arm) refl;
@@ -91,6 +96,7 @@ module _ (R : Reader) where
         added = refl;
         linked = refl;
         linked-down = refl;
+        linked-at-once = refl;
         linked-late = rw (r .arm) refl;
         counted = rw (r .arm) refl;
         refused = rw (r .damaged, r .more, r .probe) refl;
@@ -104,12 +110,14 @@ module _ (R : Reader) where
       }
 
 pub books : Books
-unfolding all tree.encode wordBytes flat beBytes
+unfolding all any same tree.encode wordBytes flat beBytes
 books =
     record {
       fresh = refl;
       calls = (tt, (tt, (bytes-below armBytes refl, (tt, (tt, tt)))));
       any-calls = λ type name bytes h t i b. (tt, (tt, (tt, (b, (tt, tt)))));
+      counting = refl;
+      not-counting = refl;
       value = refl;
       point-value = refl;
       position-values = refl;

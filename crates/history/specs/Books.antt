@@ -8,14 +8,14 @@ use mathlib.Core.Option.{Option, none, some}
 use lib.ListN.{take, replicate}
 use Rattle.fields.specs.Bytes.{Bytes}
 use Rattle.fields.specs.Lists.{Each}
-use Rattle.content.specs.Kinds.{transformText, positionText}
-use Rattle.content.specs.Tree.{position}
+use Rattle.content.specs.Kinds.{transformText, positionText, imageText}
+use Rattle.content.specs.Tree.{Content, position, other}
 use Rattle.message.specs.Message.{Message}
 use Rattle.message.specs.Check.{readOf}
-use Rattle.message.specs.Samples.{armMessage, armBytes, armContent, zeroBytes, probeMessage, probeBytes, pointText, pointWords, pointMessage, pointBytes, pointContent}
+use Rattle.message.specs.Samples.{armMessage, armBytes, armContent, zeroBytes, probeMessage, probeBytes, pointText, pointWords, pointMessage, pointBytes, pointContent, statusText}
 use Rattle.history.specs.Calls.{Call, add, linkUp, linkDown, message, look, Entry, OfBytes}
 use Rattle.history.specs.Reading.{noMessage, leftOver, oneMessage, Reader}
-use Rattle.history.specs.Summary.{Summary, freshSummary, numberBy, numberOn, next, summaryOf}
+use Rattle.history.specs.Summary.{Summary, freshSummary, countsOn, numberBy, numberOn, next, summaryOf}
 use Rattle.history.specs.History.{valueFor}
 use Rattle.history.specs.Examples.{nameOf}
 
@@ -44,6 +44,10 @@ armTile = tileOf transformText armName
 abbrev pub armTiles : List (Option Entry)
 armTiles = some armTile ∷ []
 
+-- a tile of each type, both with this name
+abbrev pub bothTypes : List ℕ → List (Option Entry)
+bothTypes name = some (tileOf transformText name) ∷ some (tileOf positionText name) ∷ []
+
 -- that tile with another name
 abbrev pub armNamed : List ℕ → List (Option Entry)
 armNamed name = some (tileOf transformText name) ∷ []
@@ -58,10 +62,23 @@ armCalls = add transformText armName 500 ∷ linkUp 1000 ∷ message 1200 armByt
 
 -- ---- the messages
 
--- a POSITION of these words in V 1
+-- from "Arm" in V 1, with this content; a POSITION of these words; no bytes of another type
+abbrev pub armWith : Content → Message
+armWith x = record { version = 1; deviceName = armName; timeStamp = 0; id = 0; further = []; content = x; metadata = armMessage .metadata }
+
 abbrev pub positionOf : List ℕ → Message
-positionOf ws =
-    record { version = 1; deviceName = armName; timeStamp = 0; id = 0; further = []; content = position ws; metadata = armMessage .metadata }
+positionOf ws = armWith (position ws)
+
+abbrev pub otherOf : List ℕ → Message
+otherOf type = armWith (other type [])
+
+-- POSITIONs have 3, 6 or 7 words
+abbrev pub wordsOfPositions : List (List ℕ)
+wordsOfPositions = take 3 pointWords ∷ pointWords ∷ (pointWords ++ (7 ∷ [])) ∷ []
+
+-- the name that differs from that of the POSITION in V 2 in its last byte
+abbrev pub otherPoint : List ℕ
+otherPoint = take 19 pointText ++ (85 ∷ [])
 
 -- ---- what the bytes of message calls are
 
@@ -100,26 +117,38 @@ module _ (R : Reader) where
         ∷ add transformText (nameOf 15) 0
         ∷ [])
         ≡ 0 ∷ 0 ∷ 17 ∷ 16 ∷ []
-    -- sixteen: 18; 17 before 18, of the first tile and the last; 16 before 18
+    -- sixteen: 18; 17 before 18, of the first tile and the last; 16 before 18, by the hold time, the type and the name
     pub sixteen : numbersOn (bookOf (tilesTo 16) false 0)
         (add transformText (nameOf 17) 500
         ∷ add transformText (nameOf 1) 500
         ∷ add transformText (nameOf 16) 500
         ∷ add transformText (nameOf 17) 0
+        ∷ add imageText (nameOf 17) 500
+        ∷ add transformText [] 500
         ∷ [])
-        ≡ 18 ∷ 17 ∷ 17 ∷ 16 ∷ []
-    -- another name is another tile; names of 19 and 20 bytes
+        ≡ 18 ∷ 17 ∷ 17 ∷ 16 ∷ 16 ∷ 16 ∷ []
+    -- another hold time is no other tile
+    pub other-hold-time : numberOn R (bookOf armTiles false 0) (add transformText armName 501) ≡ 17
+    -- the other type is another tile, and then each of the two is there
+    pub types : map (λ t. numberOn R (bookOf (some (tileOf t armName) ∷ []) false 0) (add transformText armName 500)) (positionText ∷ transformText ∷ [])
+        ≡ 0 ∷ 17 ∷ []
+    pub both-types : numbersOn (bookOf (bothTypes armName) false 0) (add transformText armName 500 ∷ add positionText armName 500 ∷ []) ≡ 17 ∷ 17 ∷ []
+    -- another name is another tile; names of 19 and 20 bytes; another last byte
     pub names : map (λ n. numberOn R (bookOf armTiles false 0) (add transformText n 500)) otherNames ≡ replicate 4 0
     pub long-names : numbersOn (bookOf (armNamed (nameOf 19)) false 0)
         (add transformText (nameOf 20) 500 ∷ add transformText (nameOf 19) 500 ∷ [])
         ≡ 0 ∷ 17 ∷ []
+    pub last-byte : numberOn R (bookOf (armNamed otherPoint) false 0) (add transformText pointText 500) ≡ 0
     -- link calls: 15, and nothing else, whether the link is up or down
     pub links : numbersOn (bookOf armTiles true 1200) (linkUp 1199 ∷ linkUp 1200 ∷ linkDown 1199 ∷ linkDown 1200 ∷ []) ≡ 15 ∷ 0 ∷ 15 ∷ 0 ∷ []
     pub links-down : numbersOn (bookOf armTiles false 1200) (linkUp 1199 ∷ linkUp 1200 ∷ linkDown 1199 ∷ linkDown 1200 ∷ [])
         ≡ 15 ∷ 0 ∷ 15 ∷ 0 ∷ []
-    -- message calls while the link is up: 15; the reader's number; 12, also where no tile has its name and type; 13; it counts
+    -- message calls while the link is up: 15, before the reader's number, 12 and 13; the reader's number; 12, also where no tile has its name
+    -- and type; 13; it counts
     pub messages-up : numbersOn (bookOf armTiles true 1200)
         (message 1199 damagedBytes
+        ∷ message 1199 (armBytes ++ (7 ∷ []))
+        ∷ message 1199 probeBytes
         ∷ message 1200 (take 57 armBytes)
         ∷ message 1200 damagedBytes
         ∷ message 1200 (armBytes ++ (7 ∷ []))
@@ -127,11 +156,19 @@ module _ (R : Reader) where
         ∷ message 1200 probeBytes
         ∷ message 1200 armBytes
         ∷ [])
-        ≡ 15 ∷ 1 ∷ 5 ∷ 12 ∷ 12 ∷ 13 ∷ 0 ∷ []
+        ≡ 15 ∷ 15 ∷ 15 ∷ 1 ∷ 5 ∷ 12 ∷ 12 ∷ 13 ∷ 0 ∷ []
+    -- whatever the reader refuses, with its number, whichever tiles there are
+    pub messages-refused : (ts : List (Option Entry)) (s : List ℕ) → Bytes s → (readOf s .number ≡ 0 → ⊥)
+        → numberOn R (bookOf ts true 0) (message 0 s) ≡ readOf s .number
     -- while it is down: 15 before 14; 14 before the reader's number, before 12 and 13
     pub messages-down : numbersOn (bookOf armTiles false 1200)
-        (message 1199 armBytes ∷ message 1200 armBytes ∷ message 1200 damagedBytes ∷ message 1200 (armBytes ++ (7 ∷ [])) ∷ [])
-        ≡ 15 ∷ 14 ∷ 14 ∷ 14 ∷ []
+        (message 1199 armBytes
+        ∷ message 1200 armBytes
+        ∷ message 1200 damagedBytes
+        ∷ message 1200 (armBytes ++ (7 ∷ []))
+        ∷ message 1200 probeBytes
+        ∷ [])
+        ≡ 15 ∷ 14 ∷ 14 ∷ 14 ∷ 14 ∷ []
     -- no tile has its name and type: no tile at all; another type; other names
     pub messages-unknown : numberOn R (bookOf [] true 0) (message 0 armBytes)
         ∷ numberOn R (bookOf (some (tileOf positionText armName) ∷ []) true 0) (message 0 armBytes)
@@ -139,10 +176,16 @@ module _ (R : Reader) where
         ∷ []
         ≡ 13 ∷ 13 ∷ 13 ∷ []
     pub messages-named : map (λ n. numberOn R (bookOf (armNamed n) true 0) (message 0 armBytes)) otherNames ≡ replicate 4 13
-    -- a POSITION in V 2, from a name of 20 bytes: another type; 19 bytes of the name; it counts
-    pub messages-point : map (λ e. numberOn R (bookOf (some e ∷ []) true 0) (message 0 pointBytes))
-        (tileOf transformText pointText ∷ tileOf positionText (take 19 pointText) ∷ tileOf positionText pointText ∷ [])
-        ≡ 13 ∷ 13 ∷ 0 ∷ []
+    -- a POSITION in V 2, from a name of 20 bytes: another type; 19 bytes of the name; another last byte; it counts, also beside a tile of the
+    -- other type
+    pub messages-point : map (λ ts. numberOn R (bookOf ts true 0) (message 0 pointBytes))
+        ((some (tileOf transformText pointText) ∷ [])
+        ∷ (some (tileOf positionText (take 19 pointText)) ∷ [])
+        ∷ (some (tileOf positionText otherPoint) ∷ [])
+        ∷ (some (tileOf positionText pointText) ∷ [])
+        ∷ bothTypes pointText
+        ∷ [])
+        ≡ 13 ∷ 13 ∷ 13 ∷ 0 ∷ 0 ∷ []
     -- the last of sixteen tiles has its name and type
     pub messages-last : numberOn R (bookOf (tilesTo 15 ++ armTiles) true 0) (message 0 armBytes) ≡ 0
     -- looks: tile 15 of sixteen; 19; 19 before 15; 15. The link does not matter
@@ -159,6 +202,8 @@ module _ (R : Reader) where
         ≡ bookOf armTiles true 1300 ∷ bookOf armTiles false 1300 ∷ []
     pub linked-down : booksAfter (bookOf armTiles false 1200) (linkUp 1300 ∷ linkDown 1300 ∷ [])
         ≡ bookOf armTiles true 1300 ∷ bookOf armTiles false 1300 ∷ []
+    pub linked-at-once : booksAfter (bookOf armTiles true 1200) (linkUp 1200 ∷ linkDown 1200 ∷ [])
+        ≡ bookOf armTiles true 1200 ∷ bookOf armTiles false 1200 ∷ []
     pub linked-late : booksAfter (bookOf armTiles true 1200) (linkUp 0xFFFFFFFFFFFFFFFF ∷ message 4294967296 armBytes ∷ [])
         ≡ bookOf armTiles true 0xFFFFFFFFFFFFFFFF ∷ bookOf armTiles true 4294967296 ∷ []
     pub counted : booksAfter (bookOf armTiles true 1200) (message 1300 armBytes ∷ look 0 1300 ∷ [])
@@ -211,11 +256,17 @@ pub record Books : Type 0 where
   pub calls : Each OfBytes (armCalls ++ (linkDown 1300 ∷ look 0 1400 ∷ []))
   pub any-calls : (type name bytes : List ℕ) (holdTime clock tile : ℕ) → Bytes bytes
       → Each OfBytes (add type name holdTime ∷ linkUp clock ∷ linkDown clock ∷ message clock bytes ∷ look tile clock ∷ [])
+  -- messages from "Arm", where it has a tile of each type: POSITIONs of every length count; STATUS, IMAGE, a type cut short and with a further
+  -- letter do not
+  pub counting : map (λ ws. countsOn (bothTypes armName) (positionOf ws)) wordsOfPositions ≡ replicate 3 true
+  pub not-counting : map (λ t. countsOn (bothTypes armName) (otherOf t))
+      (statusText ∷ imageText ∷ take 8 transformText ∷ (transformText ++ (83 ∷ [])) ∷ (positionText ++ (50 ∷ [])) ∷ [])
+      ≡ replicate 5 false
   -- the value of the message from "Arm"
   pub value : valueFor armMessage armTile ≡ armContent
-  -- and of POSITIONs, with six words in V 2, and with three and seven words
+  -- and of POSITIONs, in V 2, and with three, six and seven words
   pub point-value : valueFor pointMessage (tileOf positionText pointText) ≡ pointContent
-  pub position-values : map (λ ws. valueFor (positionOf ws) (tileOf positionText armName)) (take 3 pointWords ∷ (pointWords ++ (7 ∷ [])) ∷ [])
-      ≡ take 12 pointContent ∷ (pointContent ++ (0 ∷ 0 ∷ 0 ∷ 7 ∷ [])) ∷ []
+  pub position-values : map (λ ws. valueFor (positionOf ws) (tileOf positionText armName)) wordsOfPositions
+      ≡ take 12 pointContent ∷ pointContent ∷ (pointContent ++ (0 ∷ 0 ∷ 0 ∷ 7 ∷ [])) ∷ []
   pub reads : (R : Reader) → Read R
   pub on-books : (R : Reader) → OnBooks R

@@ -169,6 +169,8 @@ samples =
             out = refl;
           };
       zeros = refl;
+      position-12 = refl;
+      position-28 = refl;
       nothing = refl;
       front = refl;
       version-crc = refl;

@@ -102,6 +102,22 @@ zeroBytes = take 34 armBytes ++ (replicate 15 0 ++ (48 ∷ replicate 56 0))
 abbrev pub zeroAnswer : Answer
 zeroAnswer = answerOf1 9 3 0 48
 
+-- a POSITION from "Arm" of so many bytes, with time stamp 0, and all words 0
+abbrev pub positionBytes : ℕ → List ℕ
+positionBytes n =
+    join
+    ((0 ∷ 1 ∷ [])
+    ∷ (80 ∷ 79 ∷ 83 ∷ 73 ∷ 84 ∷ 73 ∷ 79 ∷ 78 ∷ replicate 4 0)
+    ∷ (65 ∷ 114 ∷ 109 ∷ replicate 17 0)
+    ∷ replicate 8 0
+    ∷ (0 ∷ 0 ∷ 0 ∷ 0 ∷ 0 ∷ 0 ∷ 0 ∷ n ∷ [])
+    ∷ replicate 8 0
+    ∷ replicate n 0
+    ∷ [])
+
+abbrev pub positionAnswer : ℕ → Answer
+positionAnswer n = answerOf1 8 3 0 n
+
 -- ---- V 2: a STATUS from the device "Probe", with two further bytes, three bytes of content, and metadata with the key "K"
 
 abbrev pub statusText : List ℕ
@@ -322,6 +338,8 @@ pub record Samples : Type 0 where
   pub point : Sample pointMessage pointBytes pointAnswer (record { version = 2; «time_stamp» = 0x3132333435363738; id = 0x41424344 })
       positionText pointText (0x51 ∷ []) pointContent probeMetadata
   pub zeros : readOf zeroBytes ≡ zeroAnswer
+  pub position-12 : readOf (positionBytes 12) ≡ positionAnswer 12
+  pub position-28 : readOf (positionBytes 28) ≡ positionAnswer 28
   -- ---- the reader, rule 5.2
   -- no bytes: all but the number is 0
   pub nothing : readOf [] ≡ noAnswer

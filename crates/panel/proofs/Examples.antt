@@ -1,11 +1,12 @@
 -- Cases P10 to P12, and the cable, for every message from Arm; and for one byte by byte.
-use Prim.Native.Nat.{ℕ}
+use Prim.Native.Nat.{ℕ, suc}
 use mathlib.Core.Path.{_≡_, refl, sym, ap, ap₂, subst, _∙_}
 use mathlib.Core.Logic.{inl}
 use mathlib.Core.Bool.{Bool, true, cond}
-use mathlib.Core.List.{List, [], _∷_, map}
+use mathlib.Core.List.{List, [], _∷_, map, foldl}
 use native.Mathlib.Omega.{arith}
-use lib.Dec.{eqb}
+use lib.Dec.{eqb, eqb·suc-zero}
+use lib.ListN.{replicate}
 use Rattle.fields.specs.Bytes.{same, sized}
 use Rattle.fields.specs.Lists.{all, any}
 use Rattle.fields.specs.Text.{isText}
@@ -17,10 +18,10 @@ use Rattle.message.specs.Message.{Message, encode}
 use Rattle.message.specs.Check.{readOf}
 use Rattle.message.specs.Demand2.{Begins}
 use Rattle.message.specs.declared.Answer.{Answer as Read}
-use Rattle.message.specs.Samples.{armMessage, armBytes, armAnswer, armContent, zeroBytes, zeroAnswer, pointBytes, pointAnswer}
+use Rattle.message.specs.Samples.{armMessage, armBytes, armAnswer, armContent, zeroBytes, zeroAnswer, positionBytes, positionAnswer, pointBytes, pointAnswer}
 use Rattle.message.proofs.Samples.{samples}
 use Rattle.message.proofs.Laws.Messages.{demand-2}
-use Rattle.history.specs.Calls.{add, linkUp, linkDown, message, look, green, grey, Answer, refused, empty, shown}
+use Rattle.history.specs.Calls.{add, linkUp, linkDown, message, look, green, grey, Answer, refused, accepted, empty, shown}
 use Rattle.history.specs.Summary.{Summary, isAllowed, allowedFault, clockFault, numberOn}
 use Rattle.history.specs.History.{valueFor, Shown}
 use Rattle.history.proofs.Books.{books}
@@ -33,7 +34,7 @@ use Rattle.panel.specs.declared.CallResult.{CallResult}
 use Rattle.panel.specs.Tiles.{valueOf, labelOf, countedFor, isTile}
 use Rattle.panel.specs.Calls.{labelIn, addFault, addOf, linkOf, readFault, messageFault, atClock, received, refusedCall, messageOf, lookFault, lookOf}
 use Rattle.panel.specs.Demand3.{answerTo, panelNext, panelAfter}
-use Rattle.panel.specs.Examples.{armText, FromArm, armTile, armBytesCalls, threeTiles, oneCounted, twoCounted, twoTiles, bothCounted, sixteenTiles, lastCounted, addedLate, lateCalls, ArmLook, armValue, zeroValue, Examples}
+use Rattle.panel.specs.Examples.{armText, FromArm, armTile, armBytesCalls, threeTiles, oneCounted, twoCounted, twoTiles, bothCounted, bothTypes, shortTile, sixteenTiles, lastCounted, addedLate, lateCalls, ArmLook, armValue, zeroValue, Examples}
 use Rattle.panel.proofs.Laws.Calls.{message-accepted, read-whole}
 use Rattle.history.proofs.Laws.Readings.{begins-one, one-step}
 use Rattle.panel.proofs.Laws.Contents.{bytesOf, pose-short, value-bytes}
@@ -232,6 +233,11 @@ examples =
       counted-long-ago = ap (λ (p : Panel). onPanel (1 ∷ []) 4294968497 p ∷ onPanel (1 ∷ []) 0xFFFFFFFFFFFFFFFF p ∷ []) one-panel;
       second-counted = ap (onPanel (0 ∷ 1 ∷ 2 ∷ []) 1400) two-panel;
       second-clock = ap (onPanel (0 ∷ 1 ∷ []) 1299) two-panel;
+      second-older = ap (onPanel (1 ∷ []) 1801) two-panel;
+      second-linked = ap (λ (p : Panel). onPanel (1 ∷ []) 1400 (panelNext p (linkUp 1400))) two-panel;
+      green-after-old = then-arm (1 ∷ []) 2000 (λ p. p) 2000 (panelAfter oneCounted) onePanel one-panel;
+      shortest =
+          ap (λ (r : CallResult). onPanel (0 ∷ []) 1201 (r .panel) ∷ onPanel (0 ∷ []) 1202 (r .panel) ∷ []) (arm-sent (panelAfter shortTile) 1200);
       green-again = then-arm (1 ∷ []) 1500 (λ p. panelNext p (linkUp 1400)) 1500 (panelAfter twoCounted) twoPanel two-panel;
       green-after-down =
           then-arm (1 ∷ []) 1600 (λ p. panelNext (panelNext p (linkDown 1400)) (linkUp 1450)) 1500 (panelAfter twoCounted) twoPanel two-panel;
@@ -243,7 +249,24 @@ examples =
           ap (λ (p : Panel). onPanel (1 ∷ []) 1200 (panelNext p (linkUp 1200)) ∷ onPanel (1 ∷ []) 1200 (panelNext p (linkDown 1200)) ∷ []) one-panel;
       both-counted = ap (onPanel (0 ∷ 1 ∷ []) 1400) both-panel;
       both-older = ap (onPanel (0 ∷ 1 ∷ []) 61300) both-panel;
+      both-oldest = ap (onPanel (0 ∷ 1 ∷ []) 61301) both-panel;
       both-linked = ap (λ (p : Panel). onPanel (0 ∷ 1 ∷ []) 1400 (panelNext p (linkUp 1400))) both-panel;
+      both-down = ap (λ (p : Panel). onPanel (0 ∷ 1 ∷ []) 1400 (panelNext p (linkDown 1400))) both-panel;
+      other-message = ap (onPanel (0 ∷ 1 ∷ []) 1750) both-panel;
+      other-clock = ap (onPanel (0 ∷ []) 1250) both-panel;
+      other-way =
+          then-arm (0 ∷ 1 ∷ []) 1400 (λ p. p) 1300 (messageOf (panelAfter twoTiles) 1200 pointBytes .panel)
+          (messageRead (panelAfter twoTiles) 1200 pointBytes pointAnswer .panel) (ap (λ (r : CallResult). r .panel) (point-sent (panelAfter twoTiles) 1200));
+      position-counted = ap (λ (r : CallResult). onPanel (0 ∷ 1 ∷ []) 1400 (r .panel)) (point-sent (panelAfter bothTypes) 1300);
+      long-position =
+          then-sent (0 ∷ 1 ∷ 2 ∷ []) 1750 (λ p. p) 1300 (positionBytes 28) (positionAnswer 28) (samples .position-28) (panelAfter oneCounted) onePanel
+          one-panel;
+      short-position =
+          then-sent (1 ∷ 2 ∷ []) 1400 (λ p. p) 1300 (positionBytes 12) (positionAnswer 12) (samples .position-12) (panelAfter oneCounted) onePanel one-panel;
+      type-added = ap (λ (p : Panel). onPanel (0 ∷ 1 ∷ []) 1700 (panelNext p (add positionText armText 500))) arm-panel;
+      four-links =
+          ap (λ (p : Panel). onPanel (1 ∷ []) 1400 (foldl panelNext p (linkDown 1300 ∷ linkUp 1300 ∷ linkDown 1400 ∷ linkUp 1400 ∷ []))) one-panel;
+      many-links = ap (λ (p : Panel). onPanel (1 ∷ []) 1400 (foldl panelNext p (replicate 256 (linkUp 1400)))) one-panel;
       one-again =
           then-sent (0 ∷ 1 ∷ []) 1600 (λ p. panelNext p (linkUp 1400)) 1500 pointBytes pointAnswer (samples .point .read) (panelAfter bothCounted)
           bothPanel both-panel;
@@ -271,8 +294,9 @@ examples =
       arm-not-there = arm-look 1 1199 (look-answer.Refused 19) zeroValue refl;
       arm-empty = refl;
       point-value = ap (λ (p : Panel). lookOf p 1 1400 .value) both-panel;
-      add-answers = refl;
-      look-answers = refl;
+      add-answers = λ n. (refl, refl);
+      call-answers = (refl, (λ n. ap (λ (t : Bool). cond t accepted (refused (suc n))) (eqb·suc-zero n)));
+      look-answers = λ n. refl;
       short-value = refl;
       -- the look is not refused by the book, so it shows what the history says
       arm-shown = λ R.

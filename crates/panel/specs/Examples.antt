@@ -1,6 +1,6 @@
 -- Cases P10 to P12 of rule 8.1, and a cable that comes loose and is put back, for every TRANSFORM message from the device Arm; such a message
 -- byte by byte, and what the tile then shows; runs of calls on two, three and sixteen tiles.
-use Prim.Native.Nat.{ℕ}
+use Prim.Native.Nat.{ℕ, suc}
 use mathlib.Core.Path.{_≡_}
 use mathlib.Core.Bool.{true}
 use mathlib.Core.List.{List, [], _∷_, _++_, map}
@@ -8,7 +8,7 @@ use lib.ListN.{replicate}
 use Rattle.content.specs.Kinds.{transformText, positionText}
 use Rattle.content.specs.Tree.{typeText}
 use Rattle.message.specs.Message.{Message, WellFormed, encode}
-use Rattle.message.specs.Samples.{armMessage, armBytes, armContent, zeroBytes, pointText, pointBytes, pointContent}
+use Rattle.message.specs.Samples.{armMessage, armBytes, armContent, zeroBytes, positionBytes, pointText, pointBytes, pointContent}
 use Rattle.history.specs.Books as books
 use Rattle.history.specs.Examples.{nameOf}
 use Rattle.history.specs.Calls.{Call, add, linkUp, linkDown, message, look, Entry, green, grey, Answer, refused, accepted, added, empty, shown}
@@ -78,6 +78,24 @@ twoTiles = add transformText armText 500 ∷ add positionText pointText 60000 �
 abbrev pub bothCounted : List Call
 bothCounted = twoTiles ++ (message 1200 armBytes ∷ message 1300 pointBytes ∷ [])
 
+-- the same messages the other way round
+abbrev pub otherWay : List Call
+otherWay = twoTiles ++ (message 1200 pointBytes ∷ message 1300 armBytes ∷ [])
+
+-- a tile of each type with one name of 20 bytes, and a message for the second
+abbrev pub bothTypes : List Call
+bothTypes = add transformText pointText 500 ∷ add positionText pointText 500 ∷ linkUp 1000 ∷ []
+
+abbrev pub positionCounted : List Call
+positionCounted = bothTypes ++ (message 1300 pointBytes ∷ [])
+
+-- the shortest hold time
+abbrev pub shortTile : List Call
+shortTile = add transformText armText 1 ∷ linkUp 1000 ∷ []
+
+abbrev pub shortCounted : List Call
+shortCounted = shortTile ++ (message 1200 armBytes ∷ [])
+
 -- fifteen TRANSFORM tiles, whose names have 1 to 15 bytes; "Arm" as the last of sixteen, and a message for it
 abbrev pub fifteenTiles : List Call
 fifteenTiles =
@@ -143,6 +161,13 @@ pub record Examples : Type 0 where
   -- the second message: its value and its age; the clock is that of the call
   pub second-counted : lookedAll twoCounted (0 ∷ 1 ∷ 2 ∷ []) 1400 ≡ empty ∷ shown green 100 (replicate 48 0) ∷ empty ∷ []
   pub second-clock : lookedAll twoCounted (0 ∷ 1 ∷ []) 1299 ≡ refused 15 ∷ refused 15 ∷ []
+  -- grey after two messages, by the age and by a link call; green by a message after the tile was grey by its age
+  pub second-older : lookedAll twoCounted (1 ∷ []) 1801 ≡ shown grey 501 (replicate 48 0) ∷ []
+  pub second-linked : lookedAll (twoCounted ++ (linkUp 1400 ∷ [])) (1 ∷ []) 1400 ≡ shown grey 100 (replicate 48 0) ∷ []
+  pub green-after-old : lookedAll (oneCounted ++ (message 2000 armBytes ∷ [])) (1 ∷ []) 2000 ≡ shown green 0 armContent ∷ []
+  -- both sides of the shortest hold time
+  pub shortest : lookedAll shortCounted (0 ∷ []) 1201 ∷ lookedAll shortCounted (0 ∷ []) 1202 ∷ []
+      ≡ (shown green 1 armContent ∷ []) ∷ (shown grey 2 armContent ∷ []) ∷ []
   -- a new link and a message on it, also after the link was down; a fourth tile and a refused link call change no colour
   pub green-again : lookedAll (twoCounted ++ (linkUp 1400 ∷ message 1500 armBytes ∷ [])) (1 ∷ []) 1500 ≡ shown green 0 armContent ∷ []
   pub green-after-down : lookedAll (twoCounted ++ (linkDown 1400 ∷ linkUp 1450 ∷ message 1500 armBytes ∷ [])) (1 ∷ []) 1600
@@ -161,8 +186,26 @@ pub record Examples : Type 0 where
   -- a message for each of two tiles: each has its own value, age and hold time; a new link; a message on it for the second
   pub both-counted : lookedAll bothCounted (0 ∷ 1 ∷ []) 1400 ≡ shown green 200 armContent ∷ shown green 100 pointContent ∷ []
   pub both-older : lookedAll bothCounted (0 ∷ 1 ∷ []) 61300 ≡ shown grey 60100 armContent ∷ shown green 60000 pointContent ∷ []
+  pub both-oldest : lookedAll bothCounted (0 ∷ 1 ∷ []) 61301 ≡ shown grey 60101 armContent ∷ shown grey 60001 pointContent ∷ []
   pub both-linked : lookedAll (bothCounted ++ (linkUp 1400 ∷ [])) (0 ∷ 1 ∷ []) 1400
       ≡ shown grey 200 armContent ∷ shown grey 100 pointContent ∷ []
+  pub both-down : lookedAll (bothCounted ++ (linkDown 1400 ∷ [])) (0 ∷ 1 ∷ []) 1400
+      ≡ shown grey 200 armContent ∷ shown grey 100 pointContent ∷ []
+  -- the message for the second tile does not keep the first green; the clock is the panel's, not the tile's
+  pub other-message : lookedAll bothCounted (0 ∷ 1 ∷ []) 1750 ≡ shown grey 550 armContent ∷ shown green 450 pointContent ∷ []
+  pub other-clock : lookedAll bothCounted (0 ∷ []) 1250 ≡ refused 15 ∷ []
+  pub other-way : lookedAll otherWay (0 ∷ 1 ∷ []) 1400 ≡ shown green 100 armContent ∷ shown green 200 pointContent ∷ []
+  -- tiles of one name: a message counts for the one of its type, and POSITIONs of 28 and 12 bytes do; an add of the other type
+  pub position-counted : lookedAll positionCounted (0 ∷ 1 ∷ []) 1400 ≡ empty ∷ shown green 100 pointContent ∷ []
+  pub long-position : lookedAll (oneCounted ++ (message 1300 (positionBytes 28) ∷ [])) (0 ∷ 1 ∷ 2 ∷ []) 1750
+      ≡ empty ∷ shown grey 550 armContent ∷ shown green 450 (replicate 28 0) ∷ []
+  pub short-position : lookedAll (oneCounted ++ (message 1300 (positionBytes 12) ∷ [])) (1 ∷ 2 ∷ []) 1400
+      ≡ shown green 200 armContent ∷ shown green 100 (replicate 12 0) ∷ []
+  pub type-added : lookedAll (armBytesCalls ++ (add positionText armText 500 ∷ [])) (0 ∷ 1 ∷ []) 1700 ≡ shown green 500 armContent ∷ empty ∷ []
+  -- many link calls
+  pub four-links : lookedAll (oneCounted ++ (linkDown 1300 ∷ linkUp 1300 ∷ linkDown 1400 ∷ linkUp 1400 ∷ [])) (1 ∷ []) 1400
+      ≡ shown grey 200 armContent ∷ []
+  pub many-links : lookedAll (oneCounted ++ replicate 256 (linkUp 1400)) (1 ∷ []) 1400 ≡ shown grey 200 armContent ∷ []
   pub one-again : lookedAll (bothCounted ++ (linkUp 1400 ∷ message 1500 pointBytes ∷ [])) (0 ∷ 1 ∷ []) 1600
       ≡ shown grey 400 armContent ∷ shown green 100 pointContent ∷ []
   -- a message before the adding: it is refused, and the clock stays; one after it, at an earlier clock
@@ -193,15 +236,11 @@ pub record Examples : Type 0 where
   pub arm-empty : lookOf (panelAfter (add transformText armText 500 ∷ [])) 0 0 .answer ≡ look-answer.Empty
   -- the value of a POSITION of 24 bytes
   pub point-value : lookOf (panelAfter bothCounted) 1 1400 .value ≡ record { bytes = pointContent ++ replicate 24 0; len = 24 }
-  -- what these say
-  pub add-answers : addAnswer (add-answer.Added 3) ∷ addAnswer (add-answer.Refused 17) ∷ callAnswer 0 ∷ callAnswer 15 ∷ []
-      ≡ added 3 ∷ refused 17 ∷ accepted ∷ refused 15 ∷ []
-  pub look-answers : lookAnswer look-answer.Empty threeBytes
-      ∷ lookAnswer (look-answer.Green 500) threeBytes
-      ∷ lookAnswer (look-answer.Grey 501) threeBytes
-      ∷ lookAnswer (look-answer.Refused 19) threeBytes
-      ∷ []
-      ≡ empty ∷ shown green 500 (1 ∷ 2 ∷ 3 ∷ []) ∷ shown grey 501 (1 ∷ 2 ∷ 3 ∷ []) ∷ refused 19 ∷ []
+  -- what these say, of every number
+  pub add-answers : (n : ℕ) → (addAnswer (add-answer.Added n) ≡ added n) × (addAnswer (add-answer.Refused n) ≡ refused n)
+  pub call-answers : (callAnswer 0 ≡ accepted) × ((n : ℕ) → callAnswer (suc n) ≡ refused (suc n))
+  pub look-answers : (n : ℕ) → map (λ a. lookAnswer a threeBytes) (look-answer.Empty ∷ look-answer.Green n ∷ look-answer.Grey n ∷ look-answer.Refused n ∷ [])
+      ≡ empty ∷ shown green n (1 ∷ 2 ∷ 3 ∷ []) ∷ shown grey n (1 ∷ 2 ∷ 3 ∷ []) ∷ refused n ∷ []
   -- a value of three bytes, as a tile keeps it
   pub short-value : valueOf (1 ∷ 2 ∷ 3 ∷ []) ≡ threeBytes
   -- what the history says of P10

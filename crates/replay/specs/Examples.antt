@@ -81,15 +81,18 @@ pub record Examples : Type 0 where
   pub no-calls : callsIn [] ≡ []
   pub early-clock : callsIn (2 ∷ 7 ∷ []) ∷ callsIn (1 ∷ 7 ∷ 8 ∷ []) ∷ [] ≡ (linkDown 7 ∷ []) ∷ (linkUp 0x0708 ∷ []) ∷ []
   pub early-part : callsIn (3 ∷ (replicate 16 0 ++ (0 ∷ 0 ∷ 0 ∷ 9 ∷ 0 ∷ 0 ∷ 0 ∷ 0 ∷ 7 ∷ 8 ∷ []))) ≡ message 0 (7 ∷ 8 ∷ []) ∷ []
+  -- parts of 258 and 257 bytes
+  pub long-parts : callsIn (0 ∷ (replicate 16 0 ++ (0 ∷ 0 ∷ 1 ∷ 2 ∷ 0 ∷ 0 ∷ 1 ∷ 1 ∷ (replicate 258 7 ++ replicate 257 8))))
+      ≡ add (replicate 258 7) (replicate 257 8) 0 ∷ []
   pub early-call : callsIn (1 ∷ (replicate 24 0 ++ (0 ∷ []))) ≡ linkUp 0 ∷ add [] [] 0 ∷ []
-  -- what the answers say
-  pub sayings : map (λ a. saying a (7 ∷ [])) (Accepted ∷ Added 3 ∷ Empty ∷ Green 500 ∷ Grey 501 ∷ Refused 15 ∷ NoCall ∷ [])
+  -- what the answers say, of every number and value
+  pub sayings : (n : ℕ) (v : List ℕ) → map (λ a. saying a v) (Accepted ∷ Added n ∷ Empty ∷ Green n ∷ Grey n ∷ Refused n ∷ NoCall ∷ [])
       ≡ some accepted
-      ∷ some (added 3)
+      ∷ some (added n)
       ∷ some empty
-      ∷ some (shown green 500 (7 ∷ []))
-      ∷ some (shown grey 501 (7 ∷ []))
-      ∷ some (refused 15)
+      ∷ some (shown green n v)
+      ∷ some (shown grey n v)
+      ∷ some (refused n)
       ∷ none
       ∷ []
   -- P10's calls, run, and looks after them
