@@ -19,7 +19,8 @@ use Rattle.message.specs.Samples.{armMessage, armContent}
 use Rattle.message.specs.Examples.{ofVersion2, getStatusText, body12}
 use Rattle.history.specs.Calls.{Call, linkUp, look, green, grey, refused, shown}
 use Rattle.history.specs.History.{valueFor}
-use Rattle.panel.specs.Examples.{FromArm, armTile, armCalls, armBytesCalls, looked}
+use Rattle.history.specs.Books.{armBytesCalls}
+use Rattle.panel.specs.Examples.{FromArm, armTile, armCalls, looked}
 
 -- ---- the inputs
 

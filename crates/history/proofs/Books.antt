@@ -59,7 +59,7 @@ module _ (R : Reader) where
       record {
         short = read-none (take 57 armBytes) 0 0 (bytes-below (take 57 armBytes) refl) (message.examples .p4 (take 57 armBytes) refl);
         damaged = read-none damagedBytes 4 106 (bytes-below damagedBytes refl) (samples .arm .damaged);
-        refused = read-refused;
+        every-refusal = read-refused;
         more = read-left armBytes armMessage 7 [] (samples .arm .well) (samples .arm .bytes) refl;
         zero-more = read-left armBytes armMessage 0 [] (samples .arm .well) (samples .arm .bytes) refl;
         message-more = read-left armBytes armMessage 0 (drop 1 zeroBytes) (samples .arm .well) (samples .arm .bytes) refl;
@@ -85,7 +85,7 @@ module _ (R : Reader) where
         links = refl;
         links-down = refl;
         messages-up = rw (r .short, r .damaged, r .more, r .other-more, r .probe, r .arm) refl;
-        messages-refused = λ ts s b z. rw (r .refused s b z) refl;
+        messages-refused = λ ts s b z. rw (r .every-refusal s b z) refl;
         messages-down = refl;
         messages-unknown = rw (r .arm) refl;
         messages-named = rw (r .arm) refl;

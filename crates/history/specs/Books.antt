@@ -1,5 +1,5 @@
--- Examples of the book: the number of each call on books that are written out, and the book after it, with any reader of demand 2. They
--- fix the numbers, the limits and the order of the checks (rules 7.3 to 7.8).
+-- Examples of the book, with any reader of demand 2: what bytes are read as; the number of each call on books that are written out, and the
+-- book after it; which messages count, and their values. They fix the numbers, the limits and the order of the checks (rules 7.3 to 7.9).
 use Prim.Native.Nat.{ℕ, zero, suc}
 use mathlib.Core.Path.{_≡_}
 use mathlib.Core.Bool.{Bool, true, false}
@@ -12,7 +12,7 @@ use Rattle.content.specs.Kinds.{transformText, positionText, imageText}
 use Rattle.content.specs.Tree.{Content, position, other}
 use Rattle.message.specs.Message.{Message}
 use Rattle.message.specs.Check.{readOf}
-use Rattle.message.specs.Samples.{armMessage, armBytes, armContent, zeroBytes, probeMessage, probeBytes, pointText, pointWords, pointMessage, pointBytes, pointContent, statusText}
+use Rattle.message.specs.Samples.{armText, armMessage, armBytes, armContent, zeroBytes, probeMessage, probeBytes, pointText, pointWords, pointMessage, pointBytes, pointContent, statusText}
 use Rattle.history.specs.Calls.{Call, add, linkUp, linkDown, message, look, Entry, OfBytes}
 use Rattle.history.specs.Reading.{noMessage, leftOver, oneMessage, Reader}
 use Rattle.history.specs.Summary.{Summary, freshSummary, countsOn, numberBy, numberOn, next, summaryOf}
@@ -33,13 +33,9 @@ abbrev pub tilesTo : ℕ → List (Option Entry)
 tilesTo zero = []
 tilesTo (suc n) = tilesTo n ++ (some (tileOf transformText (nameOf (suc n))) ∷ [])
 
--- the name "Arm"
-abbrev pub armName : List ℕ
-armName = 65 ∷ 114 ∷ 109 ∷ []
-
 -- one tile: TRANSFORM, "Arm"
 abbrev pub armTile : Entry
-armTile = tileOf transformText armName
+armTile = tileOf transformText armText
 
 abbrev pub armTiles : List (Option Entry)
 armTiles = some armTile ∷ []
@@ -48,23 +44,23 @@ armTiles = some armTile ∷ []
 abbrev pub bothTypes : List ℕ → List (Option Entry)
 bothTypes name = some (tileOf transformText name) ∷ some (tileOf positionText name) ∷ []
 
--- that tile with another name
-abbrev pub armNamed : List ℕ → List (Option Entry)
-armNamed name = some (tileOf transformText name) ∷ []
+-- one TRANSFORM tile of this name
+abbrev pub oneNamed : List ℕ → List (Option Entry)
+oneNamed name = some (tileOf transformText name) ∷ []
 
 -- names that are not "Arm": "arm", "Arn", "Ar", "Arm "
 abbrev pub otherNames : List (List ℕ)
 otherNames = (97 ∷ 114 ∷ 109 ∷ []) ∷ (65 ∷ 114 ∷ 110 ∷ []) ∷ (65 ∷ 114 ∷ []) ∷ (65 ∷ 114 ∷ 109 ∷ 32 ∷ []) ∷ []
 
 -- the tile, link up at 1000, its message at 1200
-abbrev pub armCalls : List Call
-armCalls = add transformText armName 500 ∷ linkUp 1000 ∷ message 1200 armBytes ∷ []
+abbrev pub armBytesCalls : List Call
+armBytesCalls = add transformText armText 500 ∷ linkUp 1000 ∷ message 1200 armBytes ∷ []
 
 -- ---- the messages
 
--- from "Arm" in V 1, with this content; a POSITION of these words; no bytes of another type
+-- from "Arm" in V 1, with this content; with a POSITION of these words; with a content of this type that has no bytes
 abbrev pub armWith : Content → Message
-armWith x = record { version = 1; deviceName = armName; timeStamp = 0; id = 0; further = []; content = x; metadata = armMessage .metadata }
+armWith x = record { version = 1; deviceName = armText; timeStamp = 0; id = 0; further = []; content = x; metadata = armMessage .metadata }
 
 abbrev pub positionOf : List ℕ → Message
 positionOf ws = armWith (position ws)
@@ -90,7 +86,7 @@ damagedBytes = take 105 armBytes ++ (0 ∷ [])
 pub record Read (R : Reader) : Type 0 where
   pub short : R .read (take 57 armBytes) ≡ noMessage 1
   pub damaged : R .read damagedBytes ≡ noMessage 5
-  pub refused : (s : List ℕ) → Bytes s → (readOf s .number ≡ 0 → ⊥) → R .read s ≡ noMessage (readOf s .number)
+  pub every-refusal : (s : List ℕ) → Bytes s → (readOf s .number ≡ 0 → ⊥) → R .read s ≡ noMessage (readOf s .number)
   pub more : R .read (armBytes ++ (7 ∷ [])) ≡ leftOver
   pub zero-more : R .read (armBytes ++ (0 ∷ [])) ≡ leftOver
   pub message-more : R .read (armBytes ++ zeroBytes) ≡ leftOver
@@ -128,17 +124,17 @@ module _ (R : Reader) where
         ∷ [])
         ≡ 18 ∷ 17 ∷ 17 ∷ 16 ∷ 16 ∷ 16 ∷ []
     -- another hold time is no other tile
-    pub other-hold-time : numberOn R (bookOf armTiles false 0) (add transformText armName 501) ≡ 17
+    pub other-hold-time : numberOn R (bookOf armTiles false 0) (add transformText armText 501) ≡ 17
     -- the other type is another tile, and then each of the two is there
-    pub types : map (λ t. numberOn R (bookOf (some (tileOf t armName) ∷ []) false 0) (add transformText armName 500)) (positionText ∷ transformText ∷ [])
+    pub types : map (λ t. numberOn R (bookOf (some (tileOf t armText) ∷ []) false 0) (add transformText armText 500)) (positionText ∷ transformText ∷ [])
         ≡ 0 ∷ 17 ∷ []
-    pub both-types : numbersOn (bookOf (bothTypes armName) false 0) (add transformText armName 500 ∷ add positionText armName 500 ∷ []) ≡ 17 ∷ 17 ∷ []
+    pub both-types : numbersOn (bookOf (bothTypes armText) false 0) (add transformText armText 500 ∷ add positionText armText 500 ∷ []) ≡ 17 ∷ 17 ∷ []
     -- another name is another tile; names of 19 and 20 bytes; another last byte
     pub names : map (λ n. numberOn R (bookOf armTiles false 0) (add transformText n 500)) otherNames ≡ replicate 4 0
-    pub long-names : numbersOn (bookOf (armNamed (nameOf 19)) false 0)
+    pub long-names : numbersOn (bookOf (oneNamed (nameOf 19)) false 0)
         (add transformText (nameOf 20) 500 ∷ add transformText (nameOf 19) 500 ∷ [])
         ≡ 0 ∷ 17 ∷ []
-    pub last-byte : numberOn R (bookOf (armNamed otherPoint) false 0) (add transformText pointText 500) ≡ 0
+    pub last-byte : numberOn R (bookOf (oneNamed otherPoint) false 0) (add transformText pointText 500) ≡ 0
     -- link calls: 15, and nothing else, whether the link is up or down
     pub links : numbersOn (bookOf armTiles true 1200) (linkUp 1199 ∷ linkUp 1200 ∷ linkDown 1199 ∷ linkDown 1200 ∷ []) ≡ 15 ∷ 0 ∷ 15 ∷ 0 ∷ []
     pub links-down : numbersOn (bookOf armTiles false 1200) (linkUp 1199 ∷ linkUp 1200 ∷ linkDown 1199 ∷ linkDown 1200 ∷ [])
@@ -171,11 +167,11 @@ module _ (R : Reader) where
         ≡ 15 ∷ 14 ∷ 14 ∷ 14 ∷ 14 ∷ []
     -- no tile has its name and type: no tile at all; another type; other names
     pub messages-unknown : numberOn R (bookOf [] true 0) (message 0 armBytes)
-        ∷ numberOn R (bookOf (some (tileOf positionText armName) ∷ []) true 0) (message 0 armBytes)
+        ∷ numberOn R (bookOf (some (tileOf positionText armText) ∷ []) true 0) (message 0 armBytes)
         ∷ numberOn R (bookOf (some (tileOf transformText (nameOf 3)) ∷ []) true 0) (message 0 armBytes)
         ∷ []
         ≡ 13 ∷ 13 ∷ 13 ∷ []
-    pub messages-named : map (λ n. numberOn R (bookOf (armNamed n) true 0) (message 0 armBytes)) otherNames ≡ replicate 4 13
+    pub messages-named : map (λ n. numberOn R (bookOf (oneNamed n) true 0) (message 0 armBytes)) otherNames ≡ replicate 4 13
     -- a POSITION in V 2, from a name of 20 bytes: another type; 19 bytes of the name; another last byte; it counts, also beside a tile of the
     -- other type
     pub messages-point : map (λ ts. numberOn R (bookOf ts true 0) (message 0 pointBytes))
@@ -196,8 +192,8 @@ module _ (R : Reader) where
         (look 0 0 ∷ look 256 0 ∷ look 65536 0 ∷ look 4294967296 0 ∷ look 0xFFFFFFFFFFFFFFFF 0 ∷ [])
         ≡ 0 ∷ 19 ∷ 19 ∷ 19 ∷ 19 ∷ []
     -- what is noted: an add's tile, after the others; link and clock of a link call; the clock of a message that counts; nothing of a look
-    pub added : next R (bookOf armTiles true 1200) (add positionText armName 60000)
-        ≡ bookOf (some armTile ∷ some (record { typeText = positionText; name = armName; holdTime = 60000 }) ∷ []) true 1200
+    pub added : next R (bookOf armTiles true 1200) (add positionText armText 60000)
+        ≡ bookOf (some armTile ∷ some (record { typeText = positionText; name = armText; holdTime = 60000 }) ∷ []) true 1200
     pub linked : booksAfter (bookOf armTiles true 1200) (linkUp 1300 ∷ linkDown 1300 ∷ [])
         ≡ bookOf armTiles true 1300 ∷ bookOf armTiles false 1300 ∷ []
     pub linked-down : booksAfter (bookOf armTiles false 1200) (linkUp 1300 ∷ linkDown 1300 ∷ [])
@@ -210,8 +206,8 @@ module _ (R : Reader) where
         ≡ bookOf armTiles true 1300 ∷ bookOf armTiles true 1200 ∷ []
     -- nothing of a refused call: 16 and 17; 15 and 15; 15, 5, 12 and 13; 19; then 18; 14
     pub refused : booksAfter (bookOf armTiles true 1200)
-        (add positionText armName 0
-        ∷ add transformText armName 500
+        (add positionText armText 0
+        ∷ add transformText armText 500
         ∷ linkUp 1199
         ∷ linkDown 1199
         ∷ message 1199 armBytes
@@ -224,18 +220,19 @@ module _ (R : Reader) where
     pub refused-full : next R (bookOf (tilesTo 16) true 0) (add transformText (nameOf 17) 500) ≡ bookOf (tilesTo 16) true 0
     pub refused-down : next R (bookOf armTiles false 1200) (message 1300 armBytes) ≡ bookOf armTiles false 1200
     -- the book after a sequence of calls
-    pub arm : summaryOf R armCalls ≡ bookOf armTiles true 1200
+    pub arm : summaryOf R armBytesCalls ≡ bookOf armTiles true 1200
     -- a message while the link is down, an add, a link up, a message, a look, another add
     pub after : summaryOf R
         (message 900 armBytes
-        ∷ add transformText armName 500
+        ∷ add transformText armText 500
         ∷ linkUp 1000
         ∷ message 1200 armBytes
         ∷ look 0 1700
         ∷ add transformText (nameOf 1) 500
         ∷ [])
         ≡ bookOf (some armTile ∷ some (tileOf transformText (nameOf 1)) ∷ []) true 1200
-    -- free places among the tiles: fifteen tiles and one free place; sixteen; a look at a free place
+    -- free places among the tiles: fifteen tiles and one free place; sixteen; looks at a free place and around it; a message for the tile behind
+    -- it
     pub gaps : numberOn R (bookOf (none ∷ tilesTo 15) true 0) (add transformText (nameOf 16) 500)
         ∷ numberOn R (bookOf (none ∷ tilesTo 16) true 0) (add transformText (nameOf 17) 500)
         ∷ numbersOn (bookOf (tilesTo 2 ++ (none ∷ armTiles)) true 0) (look 1 0 ∷ look 2 0 ∷ look 3 0 ∷ look 4 0 ∷ message 0 armBytes ∷ [])
@@ -243,9 +240,9 @@ module _ (R : Reader) where
     -- a tile takes the first of them
     pub gap-filled : next R (bookOf (armTiles ++ (none ∷ none ∷ tilesTo 1)) true 0) (add transformText (nameOf 3) 500)
         ≡ bookOf (armTiles ++ (some (tileOf transformText (nameOf 3)) ∷ none ∷ tilesTo 1)) true 0
-    -- whether the table is full is given
-    pub full : numberBy R true (bookOf [] true 0) (add transformText armName 500)
-        ∷ numberBy R false (bookOf (tilesTo 16) true 0) (add transformText armName 500)
+    -- whether there is a place for one more is given
+    pub full : numberBy R true (bookOf [] true 0) (add transformText armText 500)
+        ∷ numberBy R false (bookOf (tilesTo 16) true 0) (add transformText armText 500)
         ∷ []
         ≡ 18 ∷ 0 ∷ []
 
@@ -253,20 +250,20 @@ pub record Books : Type 0 where
   -- rule 7.1
   pub fresh : freshSummary ≡ bookOf [] false 0
   -- calls of every kind can be made, with any arguments, a message with any bytes
-  pub calls : Each OfBytes (armCalls ++ (linkDown 1300 ∷ look 0 1400 ∷ []))
+  pub calls : Each OfBytes (armBytesCalls ++ (linkDown 1300 ∷ look 0 1400 ∷ []))
   pub any-calls : (type name bytes : List ℕ) (holdTime clock tile : ℕ) → Bytes bytes
       → Each OfBytes (add type name holdTime ∷ linkUp clock ∷ linkDown clock ∷ message clock bytes ∷ look tile clock ∷ [])
-  -- messages from "Arm", where it has a tile of each type: POSITIONs of every length count; STATUS, IMAGE, a type cut short and with a further
-  -- letter do not
-  pub counting : map (λ ws. countsOn (bothTypes armName) (positionOf ws)) wordsOfPositions ≡ replicate 3 true
-  pub not-counting : map (λ t. countsOn (bothTypes armName) (otherOf t))
+  -- messages from "Arm", where it has a tile of each type: POSITIONs of every length count. Other types do not: STATUS; IMAGE; a type cut
+  -- short; with a further letter; with a digit
+  pub counting : map (λ ws. countsOn (bothTypes armText) (positionOf ws)) wordsOfPositions ≡ replicate 3 true
+  pub not-counting : map (λ t. countsOn (bothTypes armText) (otherOf t))
       (statusText ∷ imageText ∷ take 8 transformText ∷ (transformText ++ (83 ∷ [])) ∷ (positionText ++ (50 ∷ [])) ∷ [])
       ≡ replicate 5 false
   -- the value of the message from "Arm"
   pub value : valueFor armMessage armTile ≡ armContent
   -- and of POSITIONs, in V 2, and with three, six and seven words
   pub point-value : valueFor pointMessage (tileOf positionText pointText) ≡ pointContent
-  pub position-values : map (λ ws. valueFor (positionOf ws) (tileOf positionText armName)) wordsOfPositions
+  pub position-values : map (λ ws. valueFor (positionOf ws) (tileOf positionText armText)) wordsOfPositions
       ≡ take 12 pointContent ∷ pointContent ∷ (pointContent ++ (0 ∷ 0 ∷ 0 ∷ 7 ∷ [])) ∷ []
   pub reads : (R : Reader) → Read R
   pub on-books : (R : Reader) → OnBooks R

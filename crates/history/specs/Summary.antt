@@ -91,8 +91,8 @@ noted b (receiving t s) = record { tiles = b .tiles; link = atClock t (b .link) 
 noted b nothing = b
 
 module _ (R : Reader) where
-  -- the number that a call's checks on the book give (rules 7.3 to 7.7), where it is given whether the table is full. 0 means that the call
-  -- is accepted; a message then counts
+  -- the number that a call's checks on the book give (rules 7.3 to 7.7), where it is given whether all places for tiles are taken. 0 means
+  -- that the call is accepted; a message then counts
   abbrev pub numberBy : Bool → Summary → Call → ℕ
   numberBy full b (add t n h) = orElse (allowedFault t n h) (orElse (cond (any (passes (isOf t n)) (b .tiles)) 17 0) (cond full 18 0))
   numberBy full b (linkUp t) = clockFault (b .link .clock) t
@@ -101,7 +101,7 @@ module _ (R : Reader) where
       orElse (clockFault (b .link .clock) t) (orElse (cond (b .link .up) 0 14) (readingNumber (b .tiles) (R .read s)))
   numberBy full b (look i t) = orElse (tileFault (tileAt b i)) (clockFault (b .link .clock) t)
 
-  -- the table is full where this book's tiles fill it
+  -- they are taken where this book has as many tiles as there may be
   abbrev pub numberOn : Summary → Call → ℕ
   numberOn b c = numberBy (isFull b) b c
 

@@ -27,7 +27,7 @@ module _ (R : Reader) where
     pub after : (k t : ℕ) (m : Message) → Counted R cs i k t m → place < k
 
 pub record Words : Type 0 where
-  -- they leave one answer to a call
+  -- they leave at most one answer to a call
   pub one-answer : (R : Reader) (cs : List Call) (c : Call) (a b : Answer) → Answers R cs c a → Answers R cs c b → a ≡ b
   -- a tile of the book was added, and its messages came later (rule 7.9)
   pub after-adding : (R : Reader) (cs : List Call) (i : ℕ) (e : Entry) → tileAt (summaryOf R cs) i ≡ some e → AfterAdding R cs i e

@@ -24,6 +24,9 @@ use Rattle.message.specs.Writer.{given, fits, messageWritten, messageOut
 
 -- ---- V 1: a TRANSFORM from the device "Arm"
 
+abbrev pub armText : List ℕ
+armText = 65 ∷ 114 ∷ 109 ∷ []
+
 abbrev pub armWords : List ℕ
 armWords =
     0x20212223
@@ -44,7 +47,7 @@ abbrev pub armMessage : Message
 armMessage =
     record {
       version = 1;
-      deviceName = 65 ∷ 114 ∷ 109 ∷ [];
+      deviceName = armText;
       timeStamp = 0x0102030405060708;
       id = 0;
       further = [];
@@ -102,7 +105,7 @@ zeroBytes = take 34 armBytes ++ (replicate 15 0 ++ (48 ∷ replicate 56 0))
 abbrev pub zeroAnswer : Answer
 zeroAnswer = answerOf1 9 3 0 48
 
--- a POSITION from "Arm" of so many bytes, with time stamp 0, and all words 0
+-- a POSITION from "Arm" whose content has n bytes, n below 256: time stamp 0, and all words 0, so that the CRC is 0
 abbrev pub positionBytes : ℕ → List ℕ
 positionBytes n =
     join
@@ -181,7 +184,7 @@ probeAnswer =
       «metadata_len» = 13;
     }
 
--- ---- V 2: a POSITION from a device whose name fills its field, with one further byte, six words, and the same metadata
+-- ---- V 2: a POSITION from a device whose name fills its field, with two further bytes, six words, and the same metadata
 
 -- "ABCDEFGHIJKLMNOPQRST"
 abbrev pub pointText : List ℕ
@@ -201,7 +204,7 @@ pointMessage =
       deviceName = pointText;
       timeStamp = 0x3132333435363738;
       id = 0x41424344;
-      further = 0x51 ∷ [];
+      further = 0x51 ∷ 0x52 ∷ [];
       content = position pointWords;
       metadata = probeSection;
     }
@@ -213,7 +216,7 @@ pointContent =
     ∷ (0x6C ∷ 0x6D ∷ 0x6E ∷ 0x6F ∷ 0x70 ∷ 0x71 ∷ 0x72 ∷ 0x73 ∷ 0x74 ∷ 0x75 ∷ 0x76 ∷ 0x77 ∷ [])
     ∷ [])
 
--- V, TYPE, DEVICE_NAME, TIME_STAMP, BODY_SIZE, CRC; EXT_HEADER_SIZE and METADATA_SIZE, MSG_ID, reserved, further byte; content; metadata
+-- V, TYPE, DEVICE_NAME, TIME_STAMP, BODY_SIZE, CRC; EXT_HEADER_SIZE and METADATA_SIZE, MSG_ID, reserved, further bytes; content; metadata
 abbrev pub pointBytes : List ℕ
 pointBytes =
     join
@@ -221,12 +224,12 @@ pointBytes =
     ∷ (80 ∷ 79 ∷ 83 ∷ 73 ∷ 84 ∷ 73 ∷ 79 ∷ 78 ∷ 0 ∷ 0 ∷ 0 ∷ 0 ∷ [])
     ∷ pointText
     ∷ (0x31 ∷ 0x32 ∷ 0x33 ∷ 0x34 ∷ 0x35 ∷ 0x36 ∷ 0x37 ∷ 0x38 ∷ [])
-    ∷ (0 ∷ 0 ∷ 0 ∷ 0 ∷ 0 ∷ 0 ∷ 0 ∷ 50 ∷ [])
-    ∷ (0xAC ∷ 0x6D ∷ 0x57 ∷ 0xC7 ∷ 0x07 ∷ 0x1D ∷ 0xD6 ∷ 0x56 ∷ [])
-    ∷ (0 ∷ 13 ∷ 0 ∷ 13 ∷ [])
+    ∷ (0 ∷ 0 ∷ 0 ∷ 0 ∷ 0 ∷ 0 ∷ 0 ∷ 51 ∷ [])
+    ∷ (0x97 ∷ 0xA9 ∷ 0x52 ∷ 0x9D ∷ 0xFC ∷ 0x22 ∷ 0xF7 ∷ 0xC0 ∷ [])
+    ∷ (0 ∷ 14 ∷ 0 ∷ 13 ∷ [])
     ∷ (0x41 ∷ 0x42 ∷ 0x43 ∷ 0x44 ∷ [])
     ∷ (0 ∷ 0 ∷ 0 ∷ 0 ∷ [])
-    ∷ (0x51 ∷ [])
+    ∷ (0x51 ∷ 0x52 ∷ [])
     ∷ pointContent
     ∷ probeMetadata
     ∷ [])
@@ -235,17 +238,17 @@ abbrev pub pointAnswer : Answer
 pointAnswer =
     record {
       number = 0;
-      step = 108;
+      step = 109;
       version = 2;
       «type_len» = 8;
       «name_len» = 20;
       «time_stamp» = 0x3132333435363738;
       id = 0x41424344;
       «further_at» = 70;
-      «further_len» = 1;
-      «content_at» = 71;
+      «further_len» = 2;
+      «content_at» = 72;
       «content_len» = 24;
-      «metadata_at» = 95;
+      «metadata_at» = 96;
       «metadata_len» = 13;
     }
 
@@ -332,11 +335,11 @@ noAnswer =
 
 pub record Samples : Type 0 where
   pub arm : Sample armMessage armBytes armAnswer (record { version = 1; «time_stamp» = 0x0102030405060708; id = 0 })
-      transformText (65 ∷ 114 ∷ 109 ∷ []) [] armContent []
+      transformText armText [] armContent []
   pub probe : Sample probeMessage probeBytes probeAnswer (record { version = 2; «time_stamp» = 0x1112131415161718; id = 0x21222324 })
       statusText probeText (0x31 ∷ 0x32 ∷ []) (0x41 ∷ 0x42 ∷ 0x43 ∷ []) probeMetadata
   pub point : Sample pointMessage pointBytes pointAnswer (record { version = 2; «time_stamp» = 0x3132333435363738; id = 0x41424344 })
-      positionText pointText (0x51 ∷ []) pointContent probeMetadata
+      positionText pointText (0x51 ∷ 0x52 ∷ []) pointContent probeMetadata
   pub zeros : readOf zeroBytes ≡ zeroAnswer
   pub position-12 : readOf (positionBytes 12) ≡ positionAnswer 12
   pub position-28 : readOf (positionBytes 28) ≡ positionAnswer 28

@@ -18,12 +18,13 @@ use Rattle.message.specs.Message.{Message, encode}
 use Rattle.message.specs.Check.{readOf}
 use Rattle.message.specs.Demand2.{Begins}
 use Rattle.message.specs.declared.Answer.{Answer as Read}
-use Rattle.message.specs.Samples.{armMessage, armBytes, armAnswer, armContent, zeroBytes, zeroAnswer, positionBytes, positionAnswer, pointBytes, pointAnswer}
+use Rattle.message.specs.Samples.{armText, armMessage, armBytes, armAnswer, armContent, zeroBytes, zeroAnswer, positionBytes, positionAnswer, pointBytes, pointAnswer}
 use Rattle.message.proofs.Samples.{samples}
 use Rattle.message.proofs.Laws.Messages.{demand-2}
 use Rattle.history.specs.Calls.{add, linkUp, linkDown, message, look, green, grey, Answer, refused, accepted, empty, shown}
 use Rattle.history.specs.Summary.{Summary, isAllowed, allowedFault, clockFault, numberOn}
 use Rattle.history.specs.History.{valueFor, Shown}
+use Rattle.history.specs.Books.{armBytesCalls}
 use Rattle.history.proofs.Books.{books}
 use Rattle.panel.specs.declared.Label.{Label}
 use Rattle.panel.specs.declared.Value.{Value}
@@ -34,7 +35,7 @@ use Rattle.panel.specs.declared.CallResult.{CallResult}
 use Rattle.panel.specs.Tiles.{valueOf, labelOf, countedFor, isTile}
 use Rattle.panel.specs.Calls.{labelIn, addFault, addOf, linkOf, readFault, messageFault, atClock, received, refusedCall, messageOf, lookFault, lookOf}
 use Rattle.panel.specs.Demand3.{answerTo, panelNext, panelAfter}
-use Rattle.panel.specs.Examples.{armText, FromArm, armTile, armBytesCalls, threeTiles, oneCounted, twoCounted, twoTiles, bothCounted, bothTypes, shortTile, sixteenTiles, lastCounted, addedLate, lateCalls, ArmLook, armValue, zeroValue, Examples}
+use Rattle.panel.specs.Examples.{FromArm, armTile, threeTiles, oneCounted, twoCounted, twoTiles, bothCounted, oneName, shortTile, sixteenTiles, lastCounted, addedLate, lateCalls, ArmLook, armValue, zeroValue, Examples}
 use Rattle.panel.proofs.Laws.Calls.{message-accepted, read-whole}
 use Rattle.history.proofs.Laws.Readings.{begins-one, one-step}
 use Rattle.panel.proofs.Laws.Contents.{bytesOf, pose-short, value-bytes}
@@ -224,9 +225,6 @@ examples =
           (λ p. p) 0 1700 (shown green 400) refl;
       arm = arm-from;
       arm-bytes = samples .arm .bytes;
-      arm-p10 = ap (λ (p : Panel). answerTo p (look 0 1700)) arm-panel;
-      arm-p11 = ap (λ (p : Panel). answerTo p (look 0 1701)) arm-panel;
-      arm-p11-before = ap (λ (p : Panel). answerTo p (look 0 1199)) arm-panel;
       arm-p12 = ap (λ (p : Panel). answerTo (panelNext p (linkUp 1400)) (look 0 1400)) arm-panel;
       counted-for = ap (onPanel (0 ∷ 1 ∷ 2 ∷ 3 ∷ []) 1700) one-panel;
       counted-older = ap (onPanel (0 ∷ 1 ∷ 2 ∷ []) 1701) one-panel;
@@ -251,13 +249,16 @@ examples =
       both-older = ap (onPanel (0 ∷ 1 ∷ []) 61300) both-panel;
       both-oldest = ap (onPanel (0 ∷ 1 ∷ []) 61301) both-panel;
       both-linked = ap (λ (p : Panel). onPanel (0 ∷ 1 ∷ []) 1400 (panelNext p (linkUp 1400))) both-panel;
+      one-again =
+          then-sent (0 ∷ 1 ∷ []) 1600 (λ p. panelNext p (linkUp 1400)) 1500 pointBytes pointAnswer (samples .point .read) (panelAfter bothCounted)
+          bothPanel both-panel;
       both-down = ap (λ (p : Panel). onPanel (0 ∷ 1 ∷ []) 1400 (panelNext p (linkDown 1400))) both-panel;
       other-message = ap (onPanel (0 ∷ 1 ∷ []) 1750) both-panel;
       other-clock = ap (onPanel (0 ∷ []) 1250) both-panel;
       other-way =
           then-arm (0 ∷ 1 ∷ []) 1400 (λ p. p) 1300 (messageOf (panelAfter twoTiles) 1200 pointBytes .panel)
           (messageRead (panelAfter twoTiles) 1200 pointBytes pointAnswer .panel) (ap (λ (r : CallResult). r .panel) (point-sent (panelAfter twoTiles) 1200));
-      position-counted = ap (λ (r : CallResult). onPanel (0 ∷ 1 ∷ []) 1400 (r .panel)) (point-sent (panelAfter bothTypes) 1300);
+      position-counted = ap (λ (r : CallResult). onPanel (0 ∷ 1 ∷ []) 1400 (r .panel)) (point-sent (panelAfter oneName) 1300);
       long-position =
           then-sent (0 ∷ 1 ∷ 2 ∷ []) 1750 (λ p. p) 1300 (positionBytes 28) (positionAnswer 28) (samples .position-28) (panelAfter oneCounted) onePanel
           one-panel;
@@ -267,9 +268,6 @@ examples =
       four-links =
           ap (λ (p : Panel). onPanel (1 ∷ []) 1400 (foldl panelNext p (linkDown 1300 ∷ linkUp 1300 ∷ linkDown 1400 ∷ linkUp 1400 ∷ []))) one-panel;
       many-links = ap (λ (p : Panel). onPanel (1 ∷ []) 1400 (foldl panelNext p (replicate 256 (linkUp 1400)))) one-panel;
-      one-again =
-          then-sent (0 ∷ 1 ∷ []) 1600 (λ p. panelNext p (linkUp 1400)) 1500 pointBytes pointAnswer (samples .point .read) (panelAfter bothCounted)
-          bothPanel both-panel;
       before-adding = ap (onPanel (0 ∷ []) 1000) added-panel;
       after-adding = then-arm (0 ∷ []) 1300 (λ p. p) 1100 (panelAfter addedLate) addedPanel added-panel;
       down-twice = refl;
@@ -284,7 +282,7 @@ examples =
       arm-second = ap (λ (p : Panel). addOf p positionText armText 500 .answer) arm-panel;
       last-added = refl;
       none-added = refl;
-      arm-late = ap (λ (p : Panel). linkOf true p 1199 .number) arm-panel;
+      arm-early-link = ap (λ (p : Panel). linkOf true p 1199 .number) arm-panel;
       arm-counted =
           ap (λ (s : List ℕ). messageOf linkedPanel 1200 s .number) (sym (samples .arm .bytes))
           ∙ ap (λ (r : CallResult). r .number) (sym (message-accepted linkedPanel 1200 (encode armMessage) (message-fault armMessage arm-from linkedPanel 1200 linked-counts)));

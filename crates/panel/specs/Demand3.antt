@@ -41,9 +41,9 @@ pub record Claim (R : Reader) (cs : List Call) : Type 0 where
   pub padded : (i now : ℕ) → Padded (lookOf (panelAfter cs) i now .value .bytes) (lookOf (panelAfter cs) i now .value .len)
 
 pub record Demand3 : Type 0 where
-  -- with any reader (rule 1.4); there is one, and any two agree on all bytes
+  -- with any reader (rule 1.4); there is one, and any two agree on all bytes; bytes are read as one message exactly where they are its encoding
   pub readers : Readers
-  -- the book and the history leave one answer to each call; a tile's messages stand after its adding; tiles are numbered in order
+  -- the book and the history leave at most one answer to each call; a tile's messages stand after its adding; tiles are numbered in order
   pub words : Words
   pub claim : (R : Reader) (cs : List Call) → Each OfBytes cs → Claim R cs
   -- a refused call gives the panel back unchanged, and so does every look, for every panel

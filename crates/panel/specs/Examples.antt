@@ -1,5 +1,5 @@
 -- Cases P10 to P12 of rule 8.1, and a cable that comes loose and is put back, for every TRANSFORM message from the device Arm; such a message
--- byte by byte, and what the tile then shows; runs of calls on two, three and sixteen tiles.
+-- byte by byte, and what the tile then shows; runs of calls on one, two, three and sixteen tiles.
 use Prim.Native.Nat.{ℕ, suc}
 use mathlib.Core.Path.{_≡_}
 use mathlib.Core.Bool.{true}
@@ -8,8 +8,8 @@ use lib.ListN.{replicate}
 use Rattle.content.specs.Kinds.{transformText, positionText}
 use Rattle.content.specs.Tree.{typeText}
 use Rattle.message.specs.Message.{Message, WellFormed, encode}
-use Rattle.message.specs.Samples.{armMessage, armBytes, armContent, zeroBytes, positionBytes, pointText, pointBytes, pointContent}
-use Rattle.history.specs.Books as books
+use Rattle.message.specs.Samples.{armText, armMessage, armBytes, armContent, zeroBytes, positionBytes, pointText, pointBytes, pointContent}
+use Rattle.history.specs.Books.{armBytesCalls}
 use Rattle.history.specs.Examples.{nameOf}
 use Rattle.history.specs.Calls.{Call, add, linkUp, linkDown, message, look, Entry, green, grey, Answer, refused, accepted, added, empty, shown}
 use Rattle.history.specs.Reading.{Reader}
@@ -22,10 +22,6 @@ use Rattle.panel.specs.Tiles.{valueOf}
 use Rattle.panel.specs.Calls.{freshPanel, addOf, linkOf, messageOf, lookOf}
 use Rattle.panel.specs.Answers.{addAnswer, callAnswer, lookAnswer}
 use Rattle.panel.specs.Demand3.{answerTo, panelAfter}
-
--- "Arm"
-abbrev pub armText : List ℕ
-armText = 65 ∷ 114 ∷ 109 ∷ []
 
 pub record FromArm (m : Message) : Type 0 where
   pub well : WellFormed m
@@ -47,11 +43,7 @@ armCalls m = armCallsWith 500 m
 abbrev pub looked : List Call → ℕ → Answer
 looked cs now = answerTo (panelAfter cs) (look 0 now)
 
--- the same calls with the bytes of a message from Arm
-abbrev pub armBytesCalls : List Call
-armBytesCalls = books.armCalls
-
--- a look at tile i after them gives this answer and value, and the panel as it was
+-- a look at tile i after these calls with the bytes of a message from Arm gives this answer and value, and the panel as it was
 abbrev pub ArmLook : ℕ → ℕ → LookAnswer → Value → Type 0
 ArmLook i now a v = lookOf (panelAfter armBytesCalls) i now ≡ record { panel = panelAfter armBytesCalls; answer = a; value = v }
 
@@ -83,11 +75,11 @@ abbrev pub otherWay : List Call
 otherWay = twoTiles ++ (message 1200 pointBytes ∷ message 1300 armBytes ∷ [])
 
 -- a tile of each type with one name of 20 bytes, and a message for the second
-abbrev pub bothTypes : List Call
-bothTypes = add transformText pointText 500 ∷ add positionText pointText 500 ∷ linkUp 1000 ∷ []
+abbrev pub oneName : List Call
+oneName = add transformText pointText 500 ∷ add positionText pointText 500 ∷ linkUp 1000 ∷ []
 
-abbrev pub positionCounted : List Call
-positionCounted = bothTypes ++ (message 1300 pointBytes ∷ [])
+abbrev pub oneNameCounted : List Call
+oneNameCounted = oneName ++ (message 1300 pointBytes ∷ [])
 
 -- the shortest hold time
 abbrev pub shortTile : List Call
@@ -145,12 +137,9 @@ pub record Examples : Type 0 where
   pub refused-link : (m : Message) → FromArm m → looked (armCalls m ++ (linkUp 1199 ∷ [])) 1700 ≡ shown green 500 (valueFor m (armTile 500))
   pub second-message : (m n : Message) → FromArm m → FromArm n
       → looked (armCalls m ++ (message 1300 (encode n) ∷ [])) 1700 ≡ shown green 400 (valueFor n (armTile 500))
-  -- there is such a message, and these are its bytes; P10 to P12 of them
+  -- there is such a message, and these are its bytes; P12 of them. P10 and P11 follow from arm-green, arm-grey and arm-early
   pub arm : FromArm armMessage
   pub arm-bytes : encode armMessage ≡ armBytes
-  pub arm-p10 : looked armBytesCalls 1700 ≡ shown green 500 armContent
-  pub arm-p11 : looked armBytesCalls 1701 ≡ shown grey 501 armContent
-  pub arm-p11-before : looked armBytesCalls 1199 ≡ refused 15
   pub arm-p12 : looked (armBytesCalls ++ (linkUp 1400 ∷ [])) 1400 ≡ shown grey 200 armContent
   -- of three tiles: a message counts for the one of its type and name, by whose hold time it is judged
   pub counted-for : lookedAll oneCounted (0 ∷ 1 ∷ 2 ∷ 3 ∷ []) 1700 ≡ empty ∷ shown green 500 armContent ∷ empty ∷ refused 19 ∷ []
@@ -158,7 +147,7 @@ pub record Examples : Type 0 where
   -- the age is not cut off: 2^32 ms and one; the latest clock
   pub counted-long-ago : lookedAll oneCounted (1 ∷ []) 4294968497 ∷ lookedAll oneCounted (1 ∷ []) 0xFFFFFFFFFFFFFFFF ∷ []
       ≡ (shown grey 4294967297 armContent ∷ []) ∷ (shown grey 0xFFFFFFFFFFFFFB4F armContent ∷ []) ∷ []
-  -- the second message: its value and its age; the clock is that of the call
+  -- the second message: its value and its age; the panel's clock is 1300 then
   pub second-counted : lookedAll twoCounted (0 ∷ 1 ∷ 2 ∷ []) 1400 ≡ empty ∷ shown green 100 (replicate 48 0) ∷ empty ∷ []
   pub second-clock : lookedAll twoCounted (0 ∷ 1 ∷ []) 1299 ≡ refused 15 ∷ refused 15 ∷ []
   -- grey after two messages, by the age and by a link call; green by a message after the tile was grey by its age
@@ -189,6 +178,8 @@ pub record Examples : Type 0 where
   pub both-oldest : lookedAll bothCounted (0 ∷ 1 ∷ []) 61301 ≡ shown grey 60101 armContent ∷ shown grey 60001 pointContent ∷ []
   pub both-linked : lookedAll (bothCounted ++ (linkUp 1400 ∷ [])) (0 ∷ 1 ∷ []) 1400
       ≡ shown grey 200 armContent ∷ shown grey 100 pointContent ∷ []
+  pub one-again : lookedAll (bothCounted ++ (linkUp 1400 ∷ message 1500 pointBytes ∷ [])) (0 ∷ 1 ∷ []) 1600
+      ≡ shown grey 400 armContent ∷ shown green 100 pointContent ∷ []
   pub both-down : lookedAll (bothCounted ++ (linkDown 1400 ∷ [])) (0 ∷ 1 ∷ []) 1400
       ≡ shown grey 200 armContent ∷ shown grey 100 pointContent ∷ []
   -- the message for the second tile does not keep the first green; the clock is the panel's, not the tile's
@@ -196,7 +187,7 @@ pub record Examples : Type 0 where
   pub other-clock : lookedAll bothCounted (0 ∷ []) 1250 ≡ refused 15 ∷ []
   pub other-way : lookedAll otherWay (0 ∷ 1 ∷ []) 1400 ≡ shown green 100 armContent ∷ shown green 200 pointContent ∷ []
   -- tiles of one name: a message counts for the one of its type, and POSITIONs of 28 and 12 bytes do; an add of the other type
-  pub position-counted : lookedAll positionCounted (0 ∷ 1 ∷ []) 1400 ≡ empty ∷ shown green 100 pointContent ∷ []
+  pub position-counted : lookedAll oneNameCounted (0 ∷ 1 ∷ []) 1400 ≡ empty ∷ shown green 100 pointContent ∷ []
   pub long-position : lookedAll (oneCounted ++ (message 1300 (positionBytes 28) ∷ [])) (0 ∷ 1 ∷ 2 ∷ []) 1750
       ≡ empty ∷ shown grey 550 armContent ∷ shown green 450 (replicate 28 0) ∷ []
   pub short-position : lookedAll (oneCounted ++ (message 1300 (positionBytes 12) ∷ [])) (1 ∷ 2 ∷ []) 1400
@@ -206,8 +197,6 @@ pub record Examples : Type 0 where
   pub four-links : lookedAll (oneCounted ++ (linkDown 1300 ∷ linkUp 1300 ∷ linkDown 1400 ∷ linkUp 1400 ∷ [])) (1 ∷ []) 1400
       ≡ shown grey 200 armContent ∷ []
   pub many-links : lookedAll (oneCounted ++ replicate 256 (linkUp 1400)) (1 ∷ []) 1400 ≡ shown grey 200 armContent ∷ []
-  pub one-again : lookedAll (bothCounted ++ (linkUp 1400 ∷ message 1500 pointBytes ∷ [])) (0 ∷ 1 ∷ []) 1600
-      ≡ shown grey 400 armContent ∷ shown green 100 pointContent ∷ []
   -- a message before the adding: it is refused, and the clock stays; one after it, at an earlier clock
   pub before-adding : lookedAll addedLate (0 ∷ []) 1000 ≡ empty ∷ []
   pub after-adding : lookedAll (addedLate ++ (message 1100 armBytes ∷ [])) (0 ∷ []) 1300 ≡ shown green 200 armContent ∷ []
@@ -227,7 +216,7 @@ pub record Examples : Type 0 where
   pub arm-second : addOf (panelAfter armBytesCalls) positionText armText 500 .answer ≡ add-answer.Added 1
   pub last-added : addOf (panelAfter fifteenTiles) transformText armText 500 .answer ≡ add-answer.Added 15
   pub none-added : addOf (panelAfter sixteenTiles) positionText armText 500 .answer ≡ add-answer.Refused 18
-  pub arm-late : linkOf true (panelAfter armBytesCalls) 1199 .number ≡ 15
+  pub arm-early-link : linkOf true (panelAfter armBytesCalls) 1199 .number ≡ 15
   pub arm-counted : messageOf (panelAfter (add transformText armText 500 ∷ linkUp 1000 ∷ [])) 1200 armBytes .number ≡ 0
   pub arm-green : ArmLook 0 1700 (look-answer.Green 500) armValue
   pub arm-grey : ArmLook 0 1701 (look-answer.Grey 501) armValue

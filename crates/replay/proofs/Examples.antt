@@ -16,7 +16,8 @@ use Rattle.panel.specs.declared.LookAnswer.{LookAnswer}
 use Rattle.panel.specs.declared.LookResult.{LookResult}
 use Rattle.panel.specs.Calls.{addOf, addFault, linkOf, lookOf}
 use Rattle.panel.specs.Demand3.{panelNext, panelAfter}
-use Rattle.panel.specs.Examples.{armBytesCalls, ArmLook, armValue, zeroValue}
+use Rattle.history.specs.Books.{armBytesCalls}
+use Rattle.panel.specs.Examples.{ArmLook, armValue, zeroValue}
 use Rattle.panel.proofs.Laws.Demand3.{demand-3}
 use Rattle.panel.proofs.Examples as panel
 use Rattle.replay.specs.declared.CallAnswer.the-variants.{Accepted, Refused}

@@ -55,7 +55,7 @@ relink-agrees : (x : Tile) (o : Option RoomTile) → TileAgrees x o → TileAgre
 relink-agrees x none a = record { used = a .used; counted = a .counted }
 relink-agrees x (some y) a = record { entry = a .entry; last = a .last; since = refl }
 
--- a tile that a message carries is a pose
+-- a message that carries the type and name of an allowed tile has a pose for its content
 carried-pose : (n : Message) (e : Entry) → isAllowed (e .typeText) (e .name) (e .holdTime) ≡ true → carries n e ≡ true → IsPose (typeText (n .content))
 carried-pose n e a f =
     let y : e .typeText ≡ typeText (n .content) = same-eq _ _ (and-split (same (e .typeText) (typeText (n .content))) _ f .0) in

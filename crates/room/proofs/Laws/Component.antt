@@ -104,6 +104,10 @@ module _ (R : Reader) where
   pub books : (cs : List Call) → Books cs
   books = by-calls Books books-start books-more
 
+  -- what the book has under a number
+  pub book-at : (cs : List Call) (i : ℕ) → tileAt (summaryOf R cs) i ≡ Option·map entryOf (roomAt (roomAfter R cs) i)
+  book-at cs i = ap (λ (b : Summary). tileAt b i) (sym (books cs)) ∙ changed-at entryOf (roomAfter R cs .tiles) i
+
   -- ---- every component holds
 
   module _ (C : Component) (cs : List Call) (c : Call) (i : ℕ) where
@@ -115,9 +119,6 @@ module _ (R : Reader) where
 
     abbrev Then : Option RoomTile → Type 0
     Then = C .Holds (longer R cs c) i
-
-    book-at : tileAt (summaryOf R cs) i ≡ Option·map entryOf (roomAt m i)
-    book-at = ap (λ (b : Summary). tileAt b i) (sym (books cs)) ∙ changed-at entryOf (m .tiles) i
 
     -- nothing for this tile
     other-at : ((t : ℕ) (n : Message) → CountsFor R (summaryOf R cs) c i t n → ⊥) → NotLinked cs c → (o : Option RoomTile) → Now o → Then o
@@ -139,7 +140,7 @@ module _ (R : Reader) where
 
       received-at : numberOn R (summaryOf R cs) c ≡ 0 → (r : Reading) → R .read s ≡ r → (o : Option RoomTile) → roomAt m i ≡ o → Now o
           → Then (Option·map (countedBy t r) o)
-      received-at z r e none g h = passed-by r e (λ n y. ap (passes (carries n)) (book-at ∙ ap (Option·map entryOf) g)) none h
+      received-at z r e none g h = passed-by r e (λ n y. ap (passes (carries n)) (book-at cs i ∙ ap (Option·map entryOf) g)) none h
       received-at z (noMessage k) e (some x) g h = passed-by (noMessage k) e (λ n y. absurd (no-message n y)) (some x) h
         where
           no-message : (n : Message) → noMessage k ≡ oneMessage n → ⊥
@@ -149,7 +150,7 @@ module _ (R : Reader) where
           no-message : (n : Message) → leftOver ≡ oneMessage n → ⊥
           no-message n y = let v : _≡_ {A = ℕ} 0 1 = cc in omega arith
       received-at z (oneMessage n) e (some x) g h =
-          let f : tileAt (summaryOf R cs) i ≡ some (x .entry) = book-at ∙ ap (Option·map entryOf) g in
+          let f : tileAt (summaryOf R cs) i ≡ some (x .entry) = book-at cs i ∙ ap (Option·map entryOf) g in
           cond-cases (λ (y : RoomTile). Then (some y)) (carries n (x .entry)) (countedTile t n x) x
           (λ y. C .counted cs c i t n x (record { bytes = s; is = q; read = e; counts = z; carried = ap (passes (carries n)) f ∙ y }) h)
           (λ y.
@@ -165,7 +166,7 @@ module _ (R : Reader) where
         (cond-cases Then (eqb i (firstFree (m .tiles))) (some (newTile e)) (roomAt m i)
         (λ t.
         let o : roomAt m i ≡ none = ap (roomAt m) (eqb-true i (firstFree (m .tiles)) t) ∙ free-at (m .tiles) in
-        let f : tileAt (summaryOf R cs) i ≡ none = book-at ∙ ap (Option·map entryOf) o in
+        let f : tileAt (summaryOf R cs) i ≡ none = book-at cs i ∙ ap (Option·map entryOf) o in
         C .added cs c i e q (λ k t n d. none-counted R i cs f k t n (not-received cs c (ap isReceiving q) i .less k t n d)) (subst Now o h))
         (λ t. C .other cs c i (roomAt m i) (not-received cs c (ap isReceiving q) i) (not-linked cs c (ap isLinking q)) h))
     holds-noted (linking l) q z h =

@@ -14,11 +14,10 @@ use Rattle.history.specs.Places.{isThere, firstFree}
 use Rattle.history.specs.Reading.{Reader}
 use Rattle.history.specs.Summary.{Summary, tileAt, tileFault, clockFault, numberOn, summaryOf}
 use Rattle.history.specs.History.{holdTimeOf, NoLinkAfter, Current, NoneCounted, Last, OfLast, Shown, Accepted, Answers}
-use Rattle.history.proofs.Laws.Places.{changed-at}
 use Rattle.history.proofs.Laws.Rows.{clock-passed}
 use Rattle.history.proofs.Laws.Clocks.{known}
 use Rattle.room.proofs.Laws.Room.{Received, RoomTile, Room, roomAt, entryOf, bookOf, shownLast, shownBy, answered, roomAnswer, roomAfter}
-use Rattle.room.proofs.Laws.Component.{books}
+use Rattle.room.proofs.Laws.Component.{books, book-at}
 use Rattle.room.proofs.Laws.Last.{LastReceived, Kept, KeptBy, kept}
 use Rattle.room.proofs.Laws.Since.{Marks, MarksLast, MarkedBy, marked}
 
@@ -123,11 +122,8 @@ module _ (R : Reader) (cs : List Call) where
 
   tile-shown : (i now : ℕ) (o : Option RoomTile) → roomAt m i ≡ o → isThere (tileAt (summaryOf R cs) i) ≡ true
       → summaryOf R cs .link .clock ≤ now → Shown R cs i now (shownBy o now)
-  tile-shown i now o e t h = chosen o e (book-at o e)
+  tile-shown i now o e t h = chosen o e (book-at R cs i ∙ ap (Option·map entryOf) e)
     where
-      book-at : (p : Option RoomTile) → roomAt m i ≡ p → tileAt (summaryOf R cs) i ≡ Option·map entryOf p
-      book-at p f = ap (λ (b : Summary). tileAt b i) (sym (books R cs)) ∙ changed-at entryOf (m .tiles) i ∙ ap (Option·map entryOf) f
-
       chosen : (p : Option RoomTile) → roomAt m i ≡ p → tileAt (summaryOf R cs) i ≡ Option·map entryOf p → Shown R cs i now (shownBy p now)
       chosen none f b = absurd (false≢true (ap isThere (sym b) ∙ t))
       chosen (some x) f b =

@@ -17,7 +17,7 @@ pub record Received : Type 0 where
   pub clock : ℕ
   pub value : List ℕ
 
--- and whether it came since the last accepted link call
+-- a tile: its entry in the book; the last message that counted for it, if one did; whether that came since the last accepted link call
 pub record RoomTile : Type 0 where
   pub entry : Entry
   pub last : Option Received

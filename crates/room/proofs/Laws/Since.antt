@@ -17,7 +17,7 @@ use Rattle.room.proofs.Laws.Room.{RoomTile, roomAt, relinked, countedTi
 use Rattle.room.proofs.Laws.Component.{NotLinked, Component, holds}
 
 module _ (R : Reader) where
-  -- the mark says whether no link call stands after place k
+  -- the mark says whether no accepted link call stands after place k
   abbrev pub Marks : List Call → ℕ → Bool → Type 0
   Marks cs k true = NoLinkAfter R cs k
   Marks cs k false = NoLinkAfter R cs k → ⊥
