@@ -76,24 +76,29 @@ armBytes =
     ∷ armContent
     ∷ [])
 
--- the answer to a message of V 1: the lengths of its texts, its time stamp and the length of its content
-abbrev pub answerOf1 : ℕ → ℕ → ℕ → ℕ → Answer
-answerOf1 typeLength nameLength stamp size =
+-- the answer to a message: its version; where its further bytes begin, 58 in V 1 and 70 in V 2; the lengths of its texts; its time stamp and
+-- MSG_ID; the lengths of its further bytes, its content and its metadata
+abbrev pub answerOf : (version start typeLength nameLength stamp id further size metadata : ℕ) → Answer
+answerOf version start typeLength nameLength stamp id further size metadata =
     record {
       number = 0;
-      step = 58 + size;
-      version = 1;
+      step = start + further + size + metadata;
+      version = version;
       «type_len» = typeLength;
       «name_len» = nameLength;
       «time_stamp» = stamp;
-      id = 0;
-      «further_at» = 58;
-      «further_len» = 0;
-      «content_at» = 58;
+      id = id;
+      «further_at» = start;
+      «further_len» = further;
+      «content_at» = start + further;
       «content_len» = size;
-      «metadata_at» = 58 + size;
-      «metadata_len» = 0;
+      «metadata_at» = start + further + size;
+      «metadata_len» = metadata;
     }
+
+-- in V 1: the lengths of its texts, its time stamp and the length of its content
+abbrev pub answerOf1 : ℕ → ℕ → ℕ → ℕ → Answer
+answerOf1 typeLength nameLength stamp size = answerOf 1 58 typeLength nameLength stamp 0 0 size 0
 
 abbrev pub armAnswer : Answer
 armAnswer = answerOf1 9 3 0x0102030405060708 48
@@ -167,22 +172,7 @@ probeBytes =
     ∷ [])
 
 abbrev pub probeAnswer : Answer
-probeAnswer =
-    record {
-      number = 0;
-      step = 88;
-      version = 2;
-      «type_len» = 6;
-      «name_len» = 5;
-      «time_stamp» = 0x1112131415161718;
-      id = 0x21222324;
-      «further_at» = 70;
-      «further_len» = 2;
-      «content_at» = 72;
-      «content_len» = 3;
-      «metadata_at» = 75;
-      «metadata_len» = 13;
-    }
+probeAnswer = answerOf 2 70 6 5 0x1112131415161718 0x21222324 2 3 13
 
 -- ---- V 2: a POSITION from a device whose name fills its field, with two further bytes, six words, and the same metadata
 
@@ -235,22 +225,7 @@ pointBytes =
     ∷ [])
 
 abbrev pub pointAnswer : Answer
-pointAnswer =
-    record {
-      number = 0;
-      step = 109;
-      version = 2;
-      «type_len» = 8;
-      «name_len» = 20;
-      «time_stamp» = 0x3132333435363738;
-      id = 0x41424344;
-      «further_at» = 70;
-      «further_len» = 2;
-      «content_at» = 72;
-      «content_len» = 24;
-      «metadata_at» = 96;
-      «metadata_len» = 13;
-    }
+pointAnswer = answerOf 2 70 8 20 0x3132333435363738 0x41424344 2 24 13
 
 -- the message m has the bytes s, and the reader answers a to them, also where more bytes follow; the writer, given these arguments, writes
 -- them, and keeps the bytes beyond
