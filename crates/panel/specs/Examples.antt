@@ -172,7 +172,7 @@ pub record Examples : Type 0 where
       ∷ lookedAll (oneCounted ++ (linkDown 1200 ∷ [])) (1 ∷ []) 1200
       ∷ []
       ≡ (shown grey 0 armContent ∷ []) ∷ (shown grey 0 armContent ∷ []) ∷ []
-  -- a message for each of two tiles: each has its own value, age and hold time; a new link; a message on it for the second
+  -- a message for each of two tiles: each has its own value, age and hold time; a new link; a message on it for the second; the link is down
   pub both-counted : lookedAll bothCounted (0 ∷ 1 ∷ []) 1400 ≡ shown green 200 armContent ∷ shown green 100 pointContent ∷ []
   pub both-older : lookedAll bothCounted (0 ∷ 1 ∷ []) 61300 ≡ shown grey 60100 armContent ∷ shown green 60000 pointContent ∷ []
   pub both-oldest : lookedAll bothCounted (0 ∷ 1 ∷ []) 61301 ≡ shown grey 60101 armContent ∷ shown grey 60001 pointContent ∷ []
