@@ -3,7 +3,7 @@ use Prim.Native.Nat.{ℕ, suc}
 use mathlib.Core.Path.{_≡_, refl, sym, ap, ap₂, subst, _∙_}
 use mathlib.Core.Logic.{inl}
 use mathlib.Core.Bool.{Bool, true, cond}
-use mathlib.Core.List.{List, [], _∷_, map, foldl}
+use mathlib.Core.List.{List, [], _∷_, _++_, map, foldl}
 use native.Mathlib.Omega.{arith}
 use lib.Dec.{eqb, eqb·suc-zero}
 use lib.ListN.{replicate}
@@ -16,6 +16,7 @@ use Rattle.fields.proofs.Laws.Checks.{else-zero}
 use Rattle.content.specs.Check.{deepest}
 use Rattle.message.specs.Message.{Message, encode}
 use Rattle.message.specs.Check.{readOf}
+use Rattle.message.specs.Check as read
 use Rattle.message.specs.Demand2.{Begins}
 use Rattle.message.specs.declared.Answer.{Answer as Read}
 use Rattle.message.specs.Samples.{armText, armMessage, armBytes, armAnswer, armContent, zeroBytes, zeroAnswer, positionBytes, positionAnswer, pointBytes, pointAnswer}
@@ -24,7 +25,7 @@ use Rattle.message.proofs.Laws.Messages.{demand-2}
 use Rattle.history.specs.Calls.{add, linkUp, linkDown, message, look, green, grey, Answer, refused, accepted, empty, shown}
 use Rattle.history.specs.Summary.{Summary, isAllowed, allowedFault, clockFault, numberOn}
 use Rattle.history.specs.History.{valueFor, Shown}
-use Rattle.history.specs.Books.{armBytesCalls}
+use Rattle.history.specs.Books.{armBytesCalls, damagedBytes}
 use Rattle.history.proofs.Books.{books}
 use Rattle.panel.specs.declared.Label.{Label}
 use Rattle.panel.specs.declared.Value.{Value}
@@ -35,7 +36,7 @@ use Rattle.panel.specs.declared.CallResult.{CallResult}
 use Rattle.panel.specs.Tiles.{valueOf, labelOf, countedFor, isTile}
 use Rattle.panel.specs.Calls.{labelIn, addFault, addOf, linkOf, readFault, messageFault, atClock, received, refusedCall, messageOf, lookFault, lookOf}
 use Rattle.panel.specs.Demand3.{answerTo, panelNext, panelAfter}
-use Rattle.panel.specs.Examples.{FromArm, armTile, threeTiles, oneCounted, twoCounted, twoTiles, bothCounted, oneName, shortTile, sixteenTiles, lastCounted, addedLate, lateCalls, ArmLook, armValue, zeroValue, Examples}
+use Rattle.panel.specs.Examples.{FromArm, armTile, armLinked, threeTiles, oneCounted, twoCounted, twoTiles, bothCounted, oneName, shortTile, sixteenTiles, lastCounted, addedLate, lateCalls, ArmLook, armValue, zeroValue, Examples}
 use Rattle.panel.proofs.Laws.Calls.{message-accepted, read-whole}
 use Rattle.history.proofs.Laws.Readings.{begins-one, one-step}
 use Rattle.panel.proofs.Laws.Contents.{bytesOf, pose-short, value-bytes}
@@ -47,7 +48,7 @@ arm = labelOf transformText armText
 
 -- the panel after the first two calls
 abbrev linkedPanel : Panel
-linkedPanel = panelAfter (add transformText armText 500 ∷ linkUp 1000 ∷ [])
+linkedPanel = panelAfter armLinked
 
 -- a panel after a message from Arm with this clock and value
 abbrev countedPanel : Panel → ℕ → Value → Panel
@@ -128,6 +129,9 @@ messageRead p t s a =
     (record { panel = received p t s a; number = 0 })
     (refusedCall p (orElse (clockFault (p .link .clock) t) (orElse (cond (p .link .up) 0 14) (readFault (p .tiles) s a))))
 
+abbrev numberOf : CallResult → ℕ
+numberOf r = r .number
+
 sent : (s : List ℕ) (a : Read) → readOf s ≡ a → (p : Panel) (t : ℕ) → messageOf p t s ≡ messageRead p t s a
 unfolding messageOf messageFault
 sent s a e p t = ap (messageRead p t s) e
@@ -203,6 +207,10 @@ then-arm tiles now f t = then-sent tiles now f t armBytes armAnswer (samples .ar
 down-sent : answerTo (panelAfter (add transformText armText 500 ∷ message 1500 armBytes ∷ [])) (look 0 0) ≡ empty
 unfolding panelAfter addOf addFault messageOf messageFault allowedFault isAllowed clockFault lookOf lookFault same sized any isText all
 down-sent = refl
+
+down-number : messageOf (panelAfter (add transformText armText 500 ∷ [])) 1200 armBytes .number ≡ 14
+unfolding panelAfter addOf addFault messageOf messageFault allowedFault isAllowed clockFault same sized any isText all
+down-number = refl
 
 pub examples : Examples
 unfolding panelAfter addOf addFault linkOf readFault allowedFault isAllowed clockFault lookOf lookFault same sized any isText all
@@ -282,10 +290,15 @@ examples =
       arm-second = ap (λ (p : Panel). addOf p positionText armText 500 .answer) arm-panel;
       last-added = refl;
       none-added = refl;
+      last-twice = refl;
       arm-early-link = ap (λ (p : Panel). linkOf true p 1199 .number) arm-panel;
       arm-counted =
           ap (λ (s : List ℕ). messageOf linkedPanel 1200 s .number) (sym (samples .arm .bytes))
           ∙ ap (λ (r : CallResult). r .number) (sym (message-accepted linkedPanel 1200 (encode armMessage) (message-fault armMessage arm-from linkedPanel 1200 linked-counts)));
+      arm-more = ap numberOf (sent (armBytes ++ (7 ∷ [])) armAnswer (samples .arm .read-more) linkedPanel 1200);
+      arm-damaged = ap numberOf (sent damagedBytes (read.refused 5 106) (samples .arm .damaged) linkedPanel 1200);
+      arm-unknown = ap numberOf (point-sent linkedPanel 1200);
+      arm-down = down-number;
       arm-green = arm-look 0 1700 (look-answer.Green 500) armValue refl;
       arm-grey = arm-look 0 1701 (look-answer.Grey 501) armValue refl;
       arm-early = arm-look 0 1199 (look-answer.Refused 15) zeroValue refl;

@@ -9,7 +9,7 @@ use Rattle.content.specs.Kinds.{transformText, positionText}
 use Rattle.content.specs.Tree.{typeText}
 use Rattle.message.specs.Message.{Message, WellFormed, encode}
 use Rattle.message.specs.Samples.{armText, armMessage, armBytes, armContent, zeroBytes, positionBytes, pointText, pointBytes, pointContent}
-use Rattle.history.specs.Books.{armBytesCalls}
+use Rattle.history.specs.Books.{armBytesCalls, damagedBytes}
 use Rattle.history.specs.Examples.{nameOf}
 use Rattle.history.specs.Calls.{Call, add, linkUp, linkDown, message, look, Entry, green, grey, Answer, refused, accepted, added, empty, shown}
 use Rattle.history.specs.Reading.{Reader}
@@ -42,6 +42,10 @@ armCalls m = armCallsWith 500 m
 
 abbrev pub looked : List Call → ℕ → Answer
 looked cs now = answerTo (panelAfter cs) (look 0 now)
+
+-- the first two of them
+abbrev pub armLinked : List Call
+armLinked = add transformText armText 500 ∷ linkUp 1000 ∷ []
 
 -- a look at tile i after these calls with the bytes of a message from Arm gives this answer and value, and the panel as it was
 abbrev pub ArmLook : ℕ → ℕ → LookAnswer → Value → Type 0
@@ -210,14 +214,20 @@ pub record Examples : Type 0 where
   pub late-clock : lookedAll lateCounted (0 ∷ []) 0xFFFFFFFFFFFFFF00 ≡ refused 15 ∷ []
   -- all at clock 0
   pub at-zero : lookedAll (add transformText armText 500 ∷ linkUp 0 ∷ message 0 armBytes ∷ []) (0 ∷ []) 0 ≡ shown green 0 armContent ∷ []
-  -- the same in the code's words: adds; a link call; the message; looks
+  -- the same in the code's words: adds, 17 before 18; a link call; messages that count, are followed by a byte, have another last byte, are for
+  -- no tile, and meet a link that is down; looks
   pub arm-added : addOf freshPanel transformText armText 500 .answer ≡ add-answer.Added 0
   pub arm-twice : addOf (panelAfter armBytesCalls) transformText armText 500 .answer ≡ add-answer.Refused 17
   pub arm-second : addOf (panelAfter armBytesCalls) positionText armText 500 .answer ≡ add-answer.Added 1
   pub last-added : addOf (panelAfter fifteenTiles) transformText armText 500 .answer ≡ add-answer.Added 15
   pub none-added : addOf (panelAfter sixteenTiles) positionText armText 500 .answer ≡ add-answer.Refused 18
+  pub last-twice : addOf (panelAfter sixteenTiles) transformText armText 500 .answer ≡ add-answer.Refused 17
   pub arm-early-link : linkOf true (panelAfter armBytesCalls) 1199 .number ≡ 15
-  pub arm-counted : messageOf (panelAfter (add transformText armText 500 ∷ linkUp 1000 ∷ [])) 1200 armBytes .number ≡ 0
+  pub arm-counted : messageOf (panelAfter armLinked) 1200 armBytes .number ≡ 0
+  pub arm-more : messageOf (panelAfter armLinked) 1200 (armBytes ++ (7 ∷ [])) .number ≡ 12
+  pub arm-damaged : messageOf (panelAfter armLinked) 1200 damagedBytes .number ≡ 5
+  pub arm-unknown : messageOf (panelAfter armLinked) 1200 pointBytes .number ≡ 13
+  pub arm-down : messageOf (panelAfter (add transformText armText 500 ∷ [])) 1200 armBytes .number ≡ 14
   pub arm-green : ArmLook 0 1700 (look-answer.Green 500) armValue
   pub arm-grey : ArmLook 0 1701 (look-answer.Grey 501) armValue
   pub arm-early : ArmLook 0 1199 (look-answer.Refused 15) zeroValue
