@@ -43,11 +43,12 @@ armCalls m = armCallsWith 500 m
 abbrev pub looked : List Call → ℕ → Answer
 looked cs now = answerTo (panelAfter cs) (look 0 now)
 
--- the first two of them
+-- the first two calls of P10
 abbrev pub armLinked : List Call
 armLinked = add transformText armText 500 ∷ linkUp 1000 ∷ []
 
--- a look at tile i after these calls with the bytes of a message from Arm gives this answer and value, and the panel as it was
+-- after the calls of P10 before its look, with the bytes of a message from Arm: a look at tile i gives this answer and value, and the panel as
+-- it was
 abbrev pub ArmLook : ℕ → ℕ → LookAnswer → Value → Type 0
 ArmLook i now a v = lookOf (panelAfter armBytesCalls) i now ≡ record { panel = panelAfter armBytesCalls; answer = a; value = v }
 
