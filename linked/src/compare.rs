@@ -2,6 +2,7 @@
 
 #![forbid(unsafe_code)]
 
+mod feed;
 mod panel;
 
 use crate::inputs::Input;
@@ -18,7 +19,7 @@ use std::fmt::{self, Debug, Display, Formatter};
 pub enum Label {
     /// A number of rule 5.1.
     Number(u8),
-    /// A CRC, or which answer of the panel that is no refusal.
+    /// A CRC, which answer of the panel that is no refusal, or that a feed has none yet.
     Word(&'static str),
 }
 
@@ -56,6 +57,7 @@ pub fn compare(input: &Input) -> Result<Vec<Label>, Difference> {
             places,
             tiles,
         } => panel::compare_script(script, places, tiles),
+        Input::Feed(pushes) => feed::compare_feed(pushes),
     }
 }
 

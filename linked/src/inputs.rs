@@ -5,6 +5,7 @@
 
 mod contents;
 mod damage;
+mod feeds;
 pub mod long;
 mod messages;
 mod scripts;
@@ -12,6 +13,7 @@ mod shown;
 mod stock;
 mod writes;
 
+use reference::feed::Pushes;
 use reference::random::Random;
 use reference::vectors::samples::Sample;
 use reference::vectors::scripts::Script;
@@ -42,6 +44,8 @@ pub enum Input {
         places: Vec<usize>,
         tiles: Vec<usize>,
     },
+    /// To a feed.
+    Feed(Pushes),
 }
 
 impl Input {
@@ -57,6 +61,10 @@ impl Input {
             }
             Input::Message { sample, .. } => exact_sample(sample),
             Input::Script { script, .. } => script.bytes.shrink_to_fit(),
+            Input::Feed(pushes) => {
+                let fragments = pushes.fragments.iter_mut();
+                fragments.for_each(|fragment| fragment.bytes.shrink_to_fit());
+            }
         }
         self
     }
@@ -84,23 +92,26 @@ const fn kind(name: &'static str, share: usize, make: fn(&mut Random, &Stock) ->
     Kind { name, share, make }
 }
 
-const KINDS: [Kind; 16] = [
+const KINDS: [Kind; 19] = [
     kind("CRC: any bytes", 5, any_bytes),
     kind("reader: any bytes", 5, messages::any_bytes),
-    kind("reader: any bytes as a body", 7, messages::any_body),
-    kind("reader: messages", 10, messages::whole),
-    kind("reader: messages with a fault", 13, messages::with_a_fault),
-    kind("reader: messages with two faults", 9, messages::with_two),
+    kind("reader: any bytes as a body", 6, messages::any_body),
+    kind("reader: messages", 8, messages::whole),
+    kind("reader: messages with a fault", 11, messages::with_a_fault),
+    kind("reader: messages with two faults", 8, messages::with_two),
     kind("reader: several messages", 5, messages::several),
-    kind("reader: captured messages", 7, messages::captured),
+    kind("reader: captured messages", 6, messages::captured),
     kind("contents: whole", 6, contents::whole),
-    kind("contents: with faults", 9, contents::with_faults),
+    kind("contents: with faults", 8, contents::with_faults),
     kind("writer: messages", 5, writes::messages),
     kind("writer: with faults", 6, writes::with_faults),
     kind("panel: calls", 5, scripts::calls),
     kind("panel: calls damaged", 4, scripts::damaged),
     kind("panel: many calls", 1, scripts::many_calls),
     kind("panel: any bytes", 3, scripts::any_bytes),
+    kind("feed: several messages", 5, feeds::several),
+    kind("feed: captured messages", 2, feeds::captured),
+    kind("feed: any bytes", 1, feeds::any_bytes),
 ];
 
 const _: () = assert!(shares(KINDS.len()) == 100);

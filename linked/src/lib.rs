@@ -58,6 +58,16 @@ mod archive {
             out: *mut u8,
             out_len: usize,
         );
+        pub fn kudireppa_feed(
+            lengths: *const u8,
+            lengths_len: usize,
+            stream: *const u8,
+            stream_len: usize,
+            buffer: *mut u8,
+            buffer_len: usize,
+            out: *mut u8,
+            out_len: usize,
+        ) -> usize;
     }
 }
 
@@ -192,6 +202,49 @@ fn answered(out: &[u8; ANSWERED_LENGTH]) -> Answered {
         value_len: number_at(out, 16),
         value: std::array::from_fn(|place| out[24 + place]),
     }
+}
+
+/// What a push gives, or the refusal of an opening.
+#[derive(Clone, Copy, Debug, PartialEq, Eq)]
+pub struct Pushed {
+    /// Those of the answer to a message, or the number of the refusal and zeros.
+    pub numbers: [u64; FIELDS],
+    /// 0 nothing yet, 1 read, 2 refused.
+    pub kind: u64,
+    pub taken: u64,
+    pub kept: u64,
+}
+
+const PUSHED_LENGTH: usize = 8 * FIELDS + 24;
+
+/// Opens a feed over the buffer and pushes the stream to it. Each push is offered as many bytes as
+/// the next of the lengths says, from the first one that was not taken yet. What the last push
+/// gives, and how many bytes all of them took.
+pub fn feed(lengths: &[u32], stream: &[u8], buffer: &mut [u8]) -> (Pushed, usize) {
+    let lengths: Vec<u8> = lengths.iter().flat_map(|n| n.to_be_bytes()).collect();
+    let mut out = [UNWRITTEN; PUSHED_LENGTH];
+    // SAFETY: two slices, read; a third one and the array, written within their lengths. What is
+    // written is lent exclusively, so that none of them overlap.
+    let total = unsafe {
+        archive::kudireppa_feed(
+            lengths.as_ptr(),
+            lengths.len(),
+            stream.as_ptr(),
+            stream.len(),
+            buffer.as_mut_ptr(),
+            buffer.len(),
+            out.as_mut_ptr(),
+            out.len(),
+        )
+    };
+    let number = |place| number_at(&out, 8 * place);
+    let pushed = Pushed {
+        numbers: std::array::from_fn(number),
+        kind: number(FIELDS),
+        taken: number(FIELDS + 1),
+        kept: number(FIELDS + 2),
+    };
+    (pushed, total)
 }
 
 /// The big-endian number in eight bytes of an answer.

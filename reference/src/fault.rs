@@ -1,7 +1,7 @@
 //! The numbers of rule 5.1 for what is refused.
 
-/// Why a message, a content, a look-up, a writer's call or a call on the panel is refused; the
-/// discriminant is the number given back.
+/// Why a message, a content, a look-up, a writer's call, or a call on the panel or on a feed is
+/// refused; the discriminant is the number given back.
 #[derive(Clone, Copy, Debug, PartialEq, Eq, PartialOrd, Ord)]
 pub enum Fault {
     /// A part of the header, or of the message that it announces, is missing.
@@ -36,7 +36,10 @@ pub enum Fault {
     Full = 18,
     /// No such tile, child or key.
     NotFound = 19,
+    /// A buffer too short for what is written, or of another length than a feed's.
     Room = 20,
+    /// A feed that has answered 2 or 3.
+    Stopped = 21,
 }
 
 /// The fault with the smallest number, which is the first one wherever the numbers ascend in the

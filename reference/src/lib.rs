@@ -6,6 +6,7 @@ pub mod content;
 pub mod crc;
 mod cursor;
 pub mod fault;
+pub mod feed;
 mod listing;
 mod lookup;
 pub mod message;

@@ -1,11 +1,12 @@
-//! The vector files: what the programs `vectors`, `listing` and `panel_scripts` are given, and what
-//! they must write.
+//! The vector files: what the programs `vectors`, `listing`, `panel_scripts` and `feed_streams` are
+//! given, and what they must write.
 
 pub mod bundles;
 pub mod case;
 mod children;
 pub mod contents;
 mod crc;
+mod feeds;
 pub mod headers;
 pub mod images;
 pub mod message_writers;
@@ -27,9 +28,9 @@ pub struct VectorFile {
     pub bytes: Vec<u8>,
 }
 
-/// The inputs and the outputs of the programs `vectors`, topic by topic, `listing` and
-/// `panel_scripts`.
-pub fn files() -> [VectorFile; 6] {
+/// The inputs and the outputs of the programs `vectors`, topic by topic, `listing`, `panel_scripts`
+/// and `feed_streams`.
+pub fn files() -> [VectorFile; 8] {
     let topics = [
         crc::cases(),
         contents::cases(),
@@ -45,6 +46,7 @@ pub fn files() -> [VectorFile; 6] {
     let sample = streams::listing_input();
     let table = listing::table(&sample).into_bytes();
     let scripts = scripts::scripts();
+    let feeds = feeds::feeds();
     let file = |path, bytes| VectorFile { path, bytes };
     [
         file("crates/vectors/stdin", case::input(&cases)),
@@ -53,6 +55,8 @@ pub fn files() -> [VectorFile; 6] {
         file("crates/listing/stdout", table),
         file("crates/panel_scripts/stdin", scripts::input(&scripts)),
         file("crates/panel_scripts/stdout", scripts::output(&scripts)),
+        file("crates/feed_streams/stdin", feeds::input(&feeds)),
+        file("crates/feed_streams/stdout", feeds::output(&feeds)),
     ]
 }
 
@@ -60,13 +64,13 @@ pub fn files() -> [VectorFile; 6] {
 mod tests {
     use super::files;
 
-    /// As many bytes as the programs `vectors` and `panel_scripts` read.
-    const LONGEST: [usize; 2] = [1_376_256, 1_048_576];
+    /// As many bytes as the programs `vectors`, `panel_scripts` and `feed_streams` read.
+    const LONGEST: [usize; 3] = [1_376_256, 1_048_576, 1_376_256];
 
     #[test]
     fn the_inputs_are_read_whole() {
-        let [vectors, _, _, _, scripts, _] = files();
-        let lengths = [vectors, scripts].map(|file| file.bytes.len());
+        let [vectors, _, _, _, scripts, _, feeds, _] = files();
+        let lengths = [vectors, scripts, feeds].map(|file| file.bytes.len());
         assert!(lengths
             .iter()
             .zip(&LONGEST)

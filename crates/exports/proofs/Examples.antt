@@ -1,8 +1,34 @@
 -- The examples, by computation.
 use mathlib.Core.Path.{refl}
-use Rattle.fields.specs.Numbers.{beBytes}
+use Rattle.fields.specs.Answer.{roomFault}
+use Rattle.fields.specs.Lists.{all}
+use Rattle.fields.specs.Numbers.{beVal, beBytes}
+use Rattle.fields.specs.Text.{isText, textOf, pastText, allZero, textOk, textClean, fieldOk}
+use Rattle.header.specs.Check.{headerOf, shortFault, textsFault, limitFault, headerFault}
+use Rattle.message.specs.Check.{wholeFault, versionFault, bodyChecks, frontFault, numberOf, stepOf, readOf}
+use Rattle.feed.specs.Push.{openOf, pushFault, passedOf, fittingOf, takenIn, pushOf, storedTo, bufferOf}
+use Rattle.exports.specs.Exports.{fedFor}
 use Rattle.exports.specs.Examples.{Examples}
 
 pub examples : Examples
-unfolding beBytes
-examples = record { answer-bytes = refl; codes = refl; carried = refl; answered-bytes = refl; message-given = refl }
+unfolding roomFault all beVal beBytes isText textOf pastText allZero textOk textClean fieldOk headerOf shortFault textsFault limitFault headerFault wholeFault versionFault bodyChecks frontFault numberOf stepOf readOf openOf pushFault passedOf fittingOf takenIn pushOf storedTo bufferOf fedFor
+examples =
+    record {
+      answer-bytes = refl;
+      push-codes = refl;
+      push-read = refl;
+      pushed-bytes = refl;
+      fed-none = refl;
+      fed-part = refl;
+      fed = refl;
+      fed-total = refl;
+      fed-buffer = refl;
+      fed-more = refl;
+      fed-refused = refl;
+      fed-nothing = refl;
+      fed-unwritten = refl;
+      codes = refl;
+      carried = refl;
+      answered-bytes = refl;
+      message-given = refl;
+    }

@@ -1,13 +1,17 @@
 -- Answers byte by byte, with all numbers different: they fix the order of the numbers and the code of each answer.
 use Prim.Native.Nat.{ℕ}
 use mathlib.Core.Path.{_≡_}
-use mathlib.Core.List.{List, [], _∷_, map}
+use mathlib.Core.List.{List, [], _∷_, _++_, map}
 use lib.ListN.{replicate}
 use Rattle.fields.specs.Layout.{join}
 use Rattle.message.specs.declared.Answer.{Answer}
+use Rattle.message.specs.Check.{refused}
+use Rattle.feed.specs.declared.PushAnswer.the-variants.{Nothing, Read}
+use Rattle.feed.specs.declared.PushAnswer.the-variants as pushing
+use Rattle.feed.specs.Push.{openOf}
 use Rattle.replay.specs.declared.CallAnswer.{CallAnswer}
 use Rattle.replay.specs.declared.CallAnswer.the-variants.{Accepted, Added, Empty, Green, Grey, Refused, NoCall}
-use Rattle.exports.specs.Exports.{answerBytes, messageGiven, answerCode, carriedNumber, answeredBytes}
+use Rattle.exports.specs.Exports.{answerBytes, messageGiven, pushCode, pushRead, pushedBytes, fedTotal, fedBuffer, fedBytes, answerCode, carriedNumber, answeredBytes}
 
 -- eight bytes, of which the last is this
 abbrev pub byte : ℕ → List ℕ
@@ -34,6 +38,12 @@ thirteen =
 abbrev pub sevenAnswers : List CallAnswer
 sevenAnswers = Accepted ∷ Added 7 ∷ Empty ∷ Green 8 ∷ Grey 9 ∷ Refused 10 ∷ NoCall ∷ []
 
+abbrev pub zeroStream : List ℕ
+zeroStream = replicate 58 0 ++ replicate 8 7
+
+abbrev pub twoLengths : List ℕ
+twoLengths = 0 ∷ 0 ∷ 0 ∷ 57 ∷ 0 ∷ 0 ∷ 0 ∷ 9 ∷ []
+
 pub record Examples : Type 0 where
   -- number, step, V, the lengths of the texts, time stamp, MSG_ID; place and length of the further bytes, of the content, of the metadata
   pub answer-bytes : answerBytes thirteen
@@ -52,6 +62,23 @@ pub record Examples : Type 0 where
       ∷ byte 12
       ∷ byte 13
       ∷ [])
+  -- then which answer, how many bytes were taken, how many are kept
+  pub push-codes : map pushCode (Nothing ∷ Read thirteen ∷ pushing.Refused 21 ∷ []) ≡ 0 ∷ 1 ∷ 2 ∷ []
+  pub push-read : map pushRead (Nothing ∷ Read thirteen ∷ pushing.Refused 21 ∷ []) ≡ refused 0 0 ∷ thirteen ∷ refused 21 0 ∷ []
+  pub pushed-bytes : pushedBytes (Read thirteen) 20 300 ≡ answerBytes thirteen ++ (byte 1 ++ (byte 20 ++ (0 ∷ 0 ∷ 0 ∷ 0 ∷ 0 ∷ 0 ∷ 1 ∷ 44 ∷ [])))
+  -- a buffer of 58 bytes; the stream is a message of zeros, of version 0 and without a body, and eight bytes more. No push, and two that do not
+  -- end the message; then one that is offered 57 bytes and one that is offered nine
+  pub fed-none : fedBytes (openOf 58) [] zeroStream (replicate 58 9) ≡ pushedBytes Nothing 0 0
+  pub fed-part : fedBytes (openOf 58) (0 ∷ 0 ∷ 0 ∷ 20 ∷ 0 ∷ 0 ∷ 0 ∷ 30 ∷ []) zeroStream (replicate 58 9) ≡ pushedBytes Nothing 30 50
+  pub fed : fedBytes (openOf 58) twoLengths zeroStream (replicate 58 9) ≡ pushedBytes (Read (refused 4 58)) 1 0
+  pub fed-total : fedTotal (openOf 58) twoLengths zeroStream (replicate 58 9) ≡ 58
+  pub fed-buffer : fedBuffer (openOf 58) twoLengths zeroStream (replicate 58 9) ≡ replicate 58 0
+  -- 257 bytes are offered, so that all is taken that the feed takes; three bytes are no length
+  pub fed-more : fedTotal (openOf 58) (0 ∷ 0 ∷ 1 ∷ 1 ∷ 0 ∷ 0 ∷ 0 ∷ []) zeroStream (replicate 58 9) ≡ 58
+  -- one of 57 bytes
+  pub fed-refused : fedBytes (openOf 57) twoLengths zeroStream (replicate 57 9) ≡ pushedBytes (pushing.Refused 20) 0 0
+  pub fed-nothing : fedTotal (openOf 57) twoLengths zeroStream (replicate 57 9) ≡ 0
+  pub fed-unwritten : fedBuffer (openOf 57) twoLengths zeroStream (replicate 57 9) ≡ replicate 57 9
   pub codes : map answerCode sevenAnswers ≡ 0 ∷ 1 ∷ 2 ∷ 3 ∷ 4 ∷ 5 ∷ 6 ∷ []
   pub carried : map carriedNumber sevenAnswers ≡ 0 ∷ 7 ∷ 0 ∷ 8 ∷ 9 ∷ 10 ∷ 0 ∷ []
   -- green with the age 500 and a value of two bytes

@@ -1,11 +1,23 @@
 -- Answers as bytes: each number in eight.
-use Prim.Native.Nat.{ℕ}
+use Prim.Native.Nat.{ℕ, zero, suc, _+_, _/_}
 use mathlib.Core.List.{List, [], _∷_, _++_}
-use lib.ListN.{replicate}
+use lib.ListN.{length, replicate, drop}
+use Rattle.fields.specs.Bytes.{part}
+use Rattle.fields.specs.Numbers.{beAt}
 use Rattle.fields.specs.Layout.{join, numberFields}
 use Rattle.message.specs.declared.Answer.{Answer}
 use Rattle.message.specs.Message.{Parts}
 use Rattle.message.specs.Writer.{given}
+use Rattle.message.specs.Check as message
+use Rattle.feed.specs.declared.Feed.{Feed}
+use Rattle.feed.specs.declared.OpenAnswer.{OpenAnswer}
+use Rattle.feed.specs.declared.OpenAnswer.the-variants as opening
+use Rattle.feed.specs.declared.PushAnswer.{PushAnswer}
+use Rattle.feed.specs.declared.PushAnswer.the-variants.{Nothing, Read}
+use Rattle.feed.specs.declared.PushAnswer.the-variants as pushing
+use Rattle.feed.specs.declared.PushResult.{PushResult}
+use Rattle.feed.specs.Push.{pushed, pushOf, bufferOf}
+use Rattle.exports.specs.declared.Fed.{Fed}
 use Rattle.replay.specs.declared.CallAnswer.{CallAnswer}
 use Rattle.replay.specs.declared.CallAnswer.the-variants.{Accepted, Added, Empty, Green, Grey, Refused, NoCall}
 use Rattle.replay.specs.declared.Answered.{Answered}
@@ -28,6 +40,56 @@ answerBytes a = join (numberFields (replicate 13 8) (a .number ∷ (fieldNumbers
 abbrev pub messageGiven : ℕ → ℕ → ℕ → List ℕ → List ℕ → List ℕ → List ℕ → List ℕ → Parts
 messageGiven version stamp id t n further content metadata =
     given (record { version = version; «time_stamp» = stamp; id = id }) t n further content metadata
+
+-- ---- feeds
+
+-- which answer, and the reader's answer that goes with it; of a refusal only the number
+abbrev pub pushCode : PushAnswer → ℕ
+pushCode Nothing = 0
+pushCode (Read a) = 1
+pushCode (pushing.Refused n) = 2
+
+abbrev pub pushRead : PushAnswer → Answer
+pushRead Nothing = message.refused 0 0
+pushRead (Read a) = a
+pushRead (pushing.Refused n) = message.refused n 0
+
+-- the thirteen numbers, which answer, how many bytes the push took, and how many are kept
+abbrev pub pushedBytes : PushAnswer → ℕ → ℕ → List ℕ
+pushedBytes a taken kept = answerBytes (pushRead a) ++ join (numberFields (replicate 3 8) (pushCode a ∷ taken ∷ kept ∷ []))
+
+-- before the first push
+abbrev pub started : Feed → Fed
+started f = record { last = pushed Nothing f 0; total = 0 }
+
+-- a push that is offered n bytes of the stream s, from the first one that was not taken yet; and the buffer after it
+abbrev pub fedOnce : ℕ → List ℕ → Fed → List ℕ → Fed × List ℕ
+fedOnce n s r buf =
+    let piece : List ℕ = part n (r .total) s in
+    let p : PushResult = pushOf (r .last .feed) piece buf in
+    (record { last = p; total = r .total + p .taken }, bufferOf (r .last .feed) piece buf)
+
+-- k pushes, each offered as many bytes as the next four bytes of `lengths` say
+unfoldable pub fedFor : ℕ → List ℕ → List ℕ → Fed → List ℕ → Fed × List ℕ
+fedFor zero lengths s r buf = (r, buf)
+fedFor (suc k) lengths s r buf = let x = fedOnce (beAt 4 0 lengths) s r buf in fedFor k (drop 4 lengths) s (x .0) (x .1)
+
+abbrev pub fedBy : List ℕ → List ℕ → Fed → List ℕ → Fed × List ℕ
+fedBy lengths s r buf = fedFor (length lengths / 4) lengths s r buf
+
+-- from an opening: how many bytes are taken in all, the buffer afterwards, and what the last push gave as bytes; or the opening's refusal
+abbrev pub fedTotal : OpenAnswer → List ℕ → List ℕ → List ℕ → ℕ
+fedTotal (opening.Opened f) lengths s buf = fedBy lengths s (started f) buf .0 .total
+fedTotal (opening.Refused n) lengths s buf = 0
+
+abbrev pub fedBuffer : OpenAnswer → List ℕ → List ℕ → List ℕ → List ℕ
+fedBuffer (opening.Opened f) lengths s buf = fedBy lengths s (started f) buf .1
+fedBuffer (opening.Refused n) lengths s buf = buf
+
+abbrev pub fedBytes : OpenAnswer → List ℕ → List ℕ → List ℕ → List ℕ
+fedBytes (opening.Opened f) lengths s buf =
+    let p : PushResult = fedBy lengths s (started f) buf .0 .last in pushedBytes (p .answer) (p .taken) (p .feed .kept)
+fedBytes (opening.Refused n) lengths s buf = pushedBytes (pushing.Refused n) 0 0
 
 -- ---- scripts
 

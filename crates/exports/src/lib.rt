@@ -1,5 +1,9 @@
 // What programs in other languages call: the library as a static archive, for scripts/differential and scripts/bench. A slice is a pointer
 // and a length there. An answer of several numbers is written into a lent buffer, each number in eight bytes.
+use feed::Feed;
+use feed::OpenAnswer;
+use feed::PushAnswer;
+use feed::PushResult;
 use fields::Written;
 use message::Answer;
 use message::FixedFields;
@@ -15,8 +19,9 @@ ghost use Rattle.crc64.specs.Crc.{crcOf};
 ghost use Rattle.content.specs.Check.{contentFault, deepest};
 ghost use Rattle.message.specs.Check.{readOf};
 ghost use Rattle.message.specs.Writer.{messageWritten, messageOut};
+ghost use Rattle.feed.specs.Push.{openOf};
 ghost use Rattle.replay.specs.Replay.{answerAt, lookAfter};
-ghost use Rattle.exports.specs.Exports.{fieldNumbers, partNumbers, answerBytes, messageGiven, answerCode, carriedNumber, answeredFields, answeredBytes};
+ghost use Rattle.exports.specs.Exports.{fieldNumbers, partNumbers, answerBytes, messageGiven, pushCode, pushRead, pushedBytes, started, fedBy, fedTotal, fedBuffer, fedBytes, answerCode, carriedNumber, answeredFields, answeredBytes};
 
 // ---- the CRC and the contents
 
@@ -69,15 +74,21 @@ fn put_parts(answer: Answer, out: &mut [u8])
     fields::number::put64(answer.metadata_len as u64, 96, out);
 }
 
-// All thirteen numbers of the answer to the front of a stream, in the order of `message::Answer`: 104 bytes.
+// All thirteen numbers of an answer, in the order of `message::Answer`: 104 bytes.
+fn put_answer(answer: Answer, out: &mut [u8])
+    ensures { λ _. ⌜ now (out .exit) ≡ sets (now (out .entry)) 0 (answerBytes answer) ⌝ }
+{
+    fields::number::put64(answer.number as u64, 0, out);
+    put_fields(answer, out);
+    put_parts(answer, out);
+}
+
+// The answer to the front of a stream: 104 bytes.
 #[no_mangle]
 pub extern "C" fn kudireppa_read_fields(stream: &[u8], out: &mut [u8])
     ensures { λ _. ⌜ now (out .exit) ≡ sets (now (out .entry)) 0 (answerBytes (readOf (now (stream .entry)))) ⌝ }
 {
-    let answer = message::read(stream);
-    fields::number::put64(answer.number as u64, 0, out);
-    put_fields(answer, out);
-    put_parts(answer, out);
+    put_answer(message::read(stream), out);
 }
 
 // How many bytes of the message were written, 0 where it is refused; the number goes into `number`.
@@ -114,6 +125,103 @@ pub extern "C" fn kudireppa_write(
     );
     *number = written.number();
     written.count()
+}
+
+// ---- feeds
+
+// What the last push gave, and how many bytes all of them took.
+struct Fed {
+    last: PushResult,
+    total: usize,
+}
+
+// Which answer, as a number.
+fn push_code(answer: PushAnswer) -> u64
+    ensures { λ r. ⌜ r ≡ pushCode answer ⌝ }
+{
+    match answer {
+        PushAnswer::Nothing => 0,
+        PushAnswer::Read(_) => 1,
+        PushAnswer::Refused(_) => 2,
+    }
+}
+
+// The reader's answer; of a refusal only the number.
+fn push_read(answer: PushAnswer) -> Answer
+    ensures { λ r. ⌜ r ≡ pushRead answer ⌝ }
+{
+    match answer {
+        PushAnswer::Nothing => message::refusal(0, 0),
+        PushAnswer::Read(read) => read,
+        PushAnswer::Refused(number) => message::refusal(number, 0),
+    }
+}
+
+// The thirteen numbers, which answer, how many bytes the push took, and how many the feed keeps: 128 bytes.
+fn put_pushed(answer: PushAnswer, taken: usize, kept: usize, out: &mut [u8])
+    ensures { λ _. ⌜ now (out .exit) ≡ sets (now (out .entry)) 0 (pushedBytes answer taken kept) ⌝ }
+{
+    put_answer(push_read(answer), out);
+    fields::number::put64(push_code(answer), 104, out);
+    fields::number::put64(taken as u64, 112, out);
+    fields::number::put64(kept as u64, 120, out);
+}
+
+// Pushes the stream. Four bytes of `lengths` say how many bytes a push is offered, from the first one that was not taken yet.
+fn push_all(opened: Feed, lengths: &[u8], stream: &[u8], buffer: &mut [u8]) -> Fed
+    ensures result { λ r. ⌜ r ≡ fedBy (now (lengths .entry)) (now (stream .entry)) (started opened) (now (buffer .entry)) .0 ⌝ }
+    ensures bytes { λ _. ⌜ now (buffer .exit) ≡ fedBy (now (lengths .entry)) (now (stream .entry)) (started opened) (now (buffer .entry)) .1 ⌝ }
+{
+    let mut last = PushResult {
+        feed: opened,
+        answer: PushAnswer::Nothing,
+        taken: 0,
+    };
+    let mut total = 0;
+    let mut left = lengths;
+    while 4 <= left.len() {
+        let feed = last.feed;
+        let fragment = fields::slice::part(stream, total, fields::number::be32(left, 0) as usize);
+        let pushed = feed.push(fragment, &mut *buffer);
+        total += pushed.taken;
+        last = pushed;
+        let next = fields::slice::rest(left, 4);
+        left = next;
+    }
+    Fed {
+        last: last,
+        total: total,
+    }
+}
+
+// Opens a feed over the buffer and pushes the stream to it, in pieces of these lengths. What the last push gave goes into `out`, or the
+// refusal of the opening. Gives how many bytes were taken.
+#[no_mangle]
+pub extern "C" fn kudireppa_feed(
+    lengths: &[u8],
+    stream: &[u8],
+    buffer: &mut [u8],
+    out: &mut [u8],
+) -> usize
+    ensures total { λ r. ⌜ r ≡ fedTotal (openOf (length (now (buffer .entry)))) (now (lengths .entry)) (now (stream .entry)) (now (buffer .entry)) ⌝ }
+    ensures bytes { λ _. ⌜ now (buffer .exit) ≡ fedBuffer (openOf (length (now (buffer .entry)))) (now (lengths .entry)) (now (stream .entry)) (now (buffer .entry)) ⌝ }
+    ensures out { λ _. ⌜ now (out .exit) ≡ sets (now (out .entry)) 0 (fedBytes (openOf (length (now (buffer .entry)))) (now (lengths .entry)) (now (stream .entry)) (now (buffer .entry))) ⌝ }
+{
+    let opened = feed::open_feed(buffer);
+    match opened {
+        OpenAnswer::Opened(feed) => {
+            let fed = push_all(feed, lengths, stream, buffer);
+            let last = fed.last;
+            let after = last.feed;
+            let answer = last.answer;
+            put_pushed(answer, last.taken, after.kept_len(), out);
+            fed.total
+        }
+        OpenAnswer::Refused(number) => {
+            put_pushed(PushAnswer::Refused(number), 0, 0, out);
+            0
+        }
+    }
 }
 
 // ---- scripts of calls on a panel

@@ -42,7 +42,8 @@ pub struct FixedFields {
 
 // ---- the reader
 
-fn refusal(number: u8, step: usize) -> Answer
+// What the reader answers where it refuses: the number and the step.
+pub fn refusal(number: u8, step: usize) -> Answer
     ensures { λ r. ⌜ r ≡ refused number step ⌝ }
 {
     Answer {

@@ -5,6 +5,7 @@ use super::messages::{mend_with, LIMIT};
 use super::Input;
 use crate::crc64;
 use reference::content::image::Header;
+use reference::feed::Pushes;
 use reference::random::Random;
 use reference::vectors::patched::Patched;
 use reference::vectors::samples::{Fields, Sample};
@@ -17,7 +18,7 @@ const MORE: usize = 20_000_000;
 /// A kind of long inputs, and those of it by name.
 type Kind = (&'static str, &'static [(&'static str, fn() -> Input)]);
 
-const KINDS: [Kind; 5] = [
+const KINDS: [Kind; 6] = [
     (
         "CRC: long ones",
         &[
@@ -72,6 +73,14 @@ const KINDS: [Kind; 5] = [
     (
         "panel: long ones",
         &[("a message and bytes left over", left_over)],
+    ),
+    (
+        "feed: long ones",
+        &[
+            ("the largest body", || pushed(58 + MOST)),
+            ("the largest body, a byte too many", || pushed(57 + MOST)),
+            ("the largest body, passed over", || pushed(58)),
+        ],
     ),
 ];
 
@@ -228,4 +237,13 @@ fn left_over() -> Input {
         places: vec![2, 3, 4],
         tiles: vec![0, 1],
     }
+}
+
+/// A message with the largest body and a short one, in a few fragments.
+fn pushed(room: usize) -> Input {
+    let last = Sample::extended().bytes();
+    let stream = [stream(1, MOST), last].concat();
+    let (first, rest) = stream.split_at(1_000_000);
+    let (middle, last) = rest.split_at(MOST - 1_000_000 + 57);
+    Input::Feed(Pushes::new(room, 7, &[first, &[], middle, last]))
 }

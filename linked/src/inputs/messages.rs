@@ -64,13 +64,17 @@ pub fn with_two(random: &mut Random, stock: &Stock) -> Input {
     Input::Front(faulty(random, stock, 2))
 }
 
-/// A few messages, some of them with a fault.
 pub fn several(random: &mut Random, stock: &Stock) -> Input {
+    Input::Stream(stream(random, stock))
+}
+
+/// A few messages, some of them with a fault.
+pub fn stream(random: &mut Random, stock: &Stock) -> Vec<u8> {
     let messages = (0..random.pick(&[2, 3, 4, 5])).map(|_| {
         let faults = random.pick(&[0, 0, 1]);
         faulty(random, stock, faults)
     });
-    Input::Stream(messages.collect::<Vec<_>>().concat())
+    messages.collect::<Vec<_>>().concat()
 }
 
 /// One that the released library wrote, mostly with a fault; a few in a row, or a whole stream of
@@ -80,12 +84,7 @@ pub fn captured(random: &mut Random, stock: &Stock) -> Input {
     let first = random.below(all.len());
     match random.below(64) {
         0 => Input::Stream(damaged_capture(random)),
-        1..=8 => {
-            let last = all.len().min(first + 1 + random.below(5));
-            let mut stream = all[first..last].concat();
-            stream_fault(random, &mut stream);
-            Input::Stream(stream)
-        }
+        1..=8 => Input::Stream(captured_stream(random, stock)),
         9..=16 => Input::Front(all[first].to_vec()),
         _ => {
             let mut stream = all[first].to_vec();
@@ -94,6 +93,16 @@ pub fn captured(random: &mut Random, stock: &Stock) -> Input {
             Input::Front(stream)
         }
     }
+}
+
+/// A few in a row, with a fault in some place.
+pub fn captured_stream(random: &mut Random, stock: &Stock) -> Vec<u8> {
+    let all = &stock.captured;
+    let first = random.below(all.len());
+    let last = all.len().min(first + 1 + random.below(5));
+    let mut stream = all[first..last].concat();
+    stream_fault(random, &mut stream);
+    stream
 }
 
 /// The shorter stream with up to nine changes.

@@ -1,6 +1,7 @@
 //! Inputs in words, for one that was answered differently.
 
 use super::Input;
+use reference::feed::{Fragment, Pushes};
 use reference::vectors::case::digits;
 use reference::vectors::samples::Sample;
 
@@ -23,6 +24,7 @@ impl Input {
                 let clock = format!("clock of the looks: {}", script.clock);
                 vec![line("script", &script.bytes), clock]
             }
+            Input::Feed(pushes) => shown_pushes(pushes, most),
         }
     }
 }
@@ -52,4 +54,18 @@ fn shown_sample(sample: &Sample, room: usize, first: u8, most: usize) -> Vec<Str
     let buffer = format!("buffer of {room} bytes, which count up from {first}");
     let parts = parts.map(|(name, bytes)| shown_part(name, bytes, most));
     [numbers, buffer].into_iter().chain(parts).collect()
+}
+
+fn shown_pushes(pushes: &Pushes, most: usize) -> Vec<String> {
+    let Pushes {
+        room,
+        fill,
+        fragments,
+    } = pushes;
+    let opening = format!("opened over {room} bytes, all of them {fill}");
+    let fragments = fragments.iter().map(|Fragment { room, bytes }| {
+        let name = format!("fragment with a buffer of {room} bytes");
+        shown_part(&name, bytes, most)
+    });
+    [opening].into_iter().chain(fragments).collect()
 }

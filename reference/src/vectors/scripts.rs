@@ -156,7 +156,7 @@ mod tests {
         assert_eq!(input(&[]), record[..record.len() - 1]);
     }
 
-    /// 20 is a writer's alone.
+    /// 20 and 21 are no numbers of the panel's.
     #[test]
     fn the_named_scripts_give_every_number() {
         let scripts = named();

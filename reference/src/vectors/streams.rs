@@ -94,7 +94,7 @@ pub fn refused() -> Vec<Vec<u8>> {
 }
 
 /// Each of them between two sound messages.
-fn between_sound_ones() -> Vec<Vec<u8>> {
+pub fn between_sound_ones() -> Vec<Vec<u8>> {
     let first = Sample::extended().bytes();
     let last = Sample::plain(b"TRANSFORM", &[7; 48]).bytes();
     let streams = refused().into_iter();

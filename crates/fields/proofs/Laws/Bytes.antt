@@ -4,7 +4,7 @@ use mathlib.Core.Path.{_≡_, refl, sym, ap, ap₂, _∙_, subst⁻¹}
 use mathlib.Core.Bool.{Bool, true, false, _&&_, false≢true, and-false}
 use mathlib.Core.List.{List, [], _∷_, _++_}
 use native.Mathlib.Omega.{arith}
-use native.Mathlib.Nat.{sub-zero, zero-sub, suc-sub-suc}
+use native.Mathlib.Nat.{zero-add, sub-zero, zero-sub, suc-sub-suc}
 use native.Mathlib.Numerals.{add-one}
 use lib.Dec.{eqb}
 use lib.ListN.{length, getD, take, drop, replicate, length-append, length-drop, length-take, length-replicate, drop-of-length-le}
@@ -52,6 +52,13 @@ drop-take (suc a) (suc m) (x ∷ l) = drop-take a m l ∙ ap (λ (j : ℕ). take
 pub part-part : (k at n off : ℕ) (s : List ℕ) → at + k ≤ n → part k at (part n off s) ≡ part k (off + at) s
 part-part k at n off s h =
     ap (take k) (drop-take at n (drop off s)) ∙ take-take k (n - at) (drop at (drop off s)) (omega arith) ∙ ap (take k) (drop-drop at off s)
+
+-- what lies within the first bytes, of two streams that have them in common
+pub front-part : (k n at : ℕ) (s t : List ℕ) → at + n ≤ k → take k s ≡ take k t → part n at s ≡ part n at t
+front-part k n at s t h e = sym (cut s) ∙ ap (part n at) e ∙ cut t
+  where
+    cut : (l : List ℕ) → part n at (take k l) ≡ part n at l
+    cut l = part-part n at k 0 l h ∙ ap (λ (j : ℕ). part n j l) (zero-add at)
 
 -- the part from n on, as a slice of the code states it
 pub rest-part : (n : ℕ) (s : List ℕ) → take (length s - n) (drop n s) ≡ drop n s

@@ -7,7 +7,7 @@ use native.Mathlib.Nat.{add-suc, suc-add, add-zero, zero-add, le-of-lt}
 use native.Mathlib.Numerals.{add-one}
 use native.Mathlib.Decide.{decLe}
 use lib.ListN.{replicate, length, getD, take, drop, set, take-append-drop, drop-of-length-le}
-use lib.Seq.{sets, length-sets, sets-eq, set-out, take-suc, length-take-le}
+use lib.Seq.{sets, length-sets, sets-eq, set-out, set-comm, set-set, getD-set-other, take-suc, take-set-le, length-take-le}
 use Rattle.fields.specs.Bytes.{sized}
 use Rattle.fields.specs.Lists.{flat}
 use Rattle.fields.specs.Layout.{join, Widths, stores, Layouts}
@@ -93,3 +93,35 @@ sets-zeros zero s = sets-past [] 0 s (omega arith) ∙ sym (sized-zero s)
 sets-zeros (suc w) [] = sym (sized-nil (suc w))
 sets-zeros (suc w) (x ∷ s) =
     sets-cons x (replicate w 0) 0 s ∙ ap {B = List ℕ} (λ l. x ∷ l) (sets-zeros w s) ∙ sym (sized-cons w x s)
+
+-- ---- places that a store leaves alone
+
+pub sets-before : (l : List ℕ) (i : ℕ) (xs : List ℕ) (j : ℕ) → j < i → getD (sets l i xs) j 0 ≡ getD l j 0
+sets-before l i [] j h = refl
+sets-before l i (x ∷ xs) j h =
+    sets-before (set l i x) (suc i) xs j (omega arith) ∙ getD-set-other l i j x 0 (λ e. omega (arith, h, e))
+
+pub sets-beyond : (l : List ℕ) (i : ℕ) (xs : List ℕ) (j : ℕ) → i + length xs ≤ j → getD (sets l i xs) j 0 ≡ getD l j 0
+sets-beyond l i [] j h = refl
+sets-beyond l i (x ∷ xs) j h =
+    sets-beyond (set l i x) (suc i) xs j (omega (arith, h)) ∙ getD-set-other l i j x 0 (λ e. omega (arith, h, e))
+
+pub take-sets : (n : ℕ) (l : List ℕ) (i : ℕ) (xs : List ℕ) → n ≤ i → take n (sets l i xs) ≡ take n l
+take-sets n l i [] h = refl
+take-sets n l i (x ∷ xs) h = take-sets n (set l i x) (suc i) xs (omega arith) ∙ take-set-le n l i x h
+
+-- ---- a store over a shorter one
+
+set-sets : (l : List ℕ) (i : ℕ) (x : ℕ) (j : ℕ) (xs : List ℕ) → i < j → set (sets l j xs) i x ≡ sets (set l i x) j xs
+set-sets l i x j [] h = refl
+set-sets l i x j (y ∷ xs) h =
+    set-sets (set l j y) i x (suc j) xs (omega arith) ∙ ap (λ (r : List ℕ). sets r (suc j) xs) (set-comm l j i y x (λ e. omega (arith, h, e)))
+
+pub sets-over : (l : List ℕ) (i m n : ℕ) (s : List ℕ) → m ≤ n → sets (sets l i (take m s)) i (take n s) ≡ sets l i (take n s)
+sets-over l i zero n s h = refl
+sets-over l i (suc m) zero s h = absurd (let z : suc m ≤ 0 = h in omega arith)
+sets-over l i (suc m) (suc n) [] h = refl
+sets-over l i (suc m) (suc n) (x ∷ s) h =
+    ap (λ (r : List ℕ). sets r (suc i) (take n s))
+    (set-sets (set l i x) i x (suc i) (take m s) (omega arith) ∙ ap (λ (r : List ℕ). sets r (suc i) (take m s)) (set-set l i x x))
+    ∙ sets-over (set l i x) (suc i) m n s (omega arith)

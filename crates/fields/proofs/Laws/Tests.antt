@@ -1,6 +1,6 @@
 -- Tests whose outcome is kept, and choices by them.
 use Prim.Native.Nat.{ℕ, zero, suc}
-use mathlib.Core.Path.{_≡_, refl, sym, _∙_}
+use mathlib.Core.Path.{_≡_, refl, sym, ap, _∙_}
 use mathlib.Core.Bool.{Bool, true, false, cond, false≢true}
 use native.Mathlib.Omega.{arith}
 
@@ -26,3 +26,10 @@ true-false t e h = absurd (false≢true (sym h ∙ e))
 pub cond-cases {ℓ κ} : {A : Type ℓ} (P : A → Type κ) (t : Bool) (x y : A) → (t ≡ true → P x) → (t ≡ false → P y) → P (cond t x y)
 cond-cases P true x y f g = f refl
 cond-cases P false x y f g = g refl
+
+-- a choice whose test is known
+pub cond-yes : {A : Type 0} (t : Bool) (x y : A) → t ≡ true → cond t x y ≡ x
+cond-yes t x y h = ap (λ (b : Bool). cond b x y) h
+
+pub cond-no : {A : Type 0} (t : Bool) (x y : A) → t ≡ false → cond t x y ≡ y
+cond-no t x y h = ap (λ (b : Bool). cond b x y) h

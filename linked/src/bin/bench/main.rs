@@ -5,6 +5,7 @@
 #![forbid(unsafe_code)]
 
 mod baseline;
+mod feed;
 mod inputs;
 mod panel;
 mod rust;
@@ -32,6 +33,7 @@ fn main() {
     print_rows("BIND of TRANSFORMs", Per::Child, &transforms);
     print_rows("writer, message", Per::Byte, &[writer()]);
     panel::print_costs();
+    feed::print_costs();
 }
 
 fn crc(n: usize) -> Row {

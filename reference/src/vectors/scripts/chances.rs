@@ -310,7 +310,7 @@ mod tests {
         counts
     }
 
-    /// All but 20, which is a writer's alone.
+    /// All but 20 and 21, which are not the panel's.
     #[test]
     fn every_number_of_a_refusal() {
         let events = scripts().iter().flat_map(events).collect::<Vec<_>>();

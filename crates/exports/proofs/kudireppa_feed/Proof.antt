@@ -1,0 +1,86 @@
+-- `exports::kudireppa_feed` meets its contract: the pushes, or the opening's refusal.
+use mathlib.Core.Path.{sym, ap, _∙_}
+use lib.Seq.{sets}
+use borrow.Author.Needs.{needs}
+use Rattle.exports.proofs.Laws.{total-opened, buffer-opened, bytes-opened, total-refused, buffer-refused, bytes-refused}
+use Rattle.exports.proofs.kudireppa_feed.Statement.{statement}
+use Rattle.exports.proofs.kudireppa_feed.Tie as tie
+
+open-feed-requires : tie.Need-open-feed-requires
+open-feed-requires c κs = search needs
+
+enum-known-opened : tie.Need-enum-known-opened
+enum-known-opened c = search needs
+
+push-all-requires : tie.Need-push-all-requires
+push-all-requires c κs = search needs
+
+kept-len-requires : tie.Need-kept-len-requires
+kept-len-requires c κs = search needs
+
+put-pushed-requires : tie.Need-put-pushed-requires
+put-pushed-requires c κs = search needs
+
+enum-known-opened-2 : tie.Need-enum-known-opened-2
+enum-known-opened-2 c = search needs
+
+put-pushed-requires-2 : tie.Need-put-pushed-requires-2
+put-pushed-requires-2 c κs = search needs
+
+same-length : tie.Need-same-length
+same-length c = search needs
+
+same-length-2 : tie.Need-same-length-2
+same-length-2 c = search needs
+
+returns : tie.Need-returns
+returns c =
+    let a = c .before .before .before .before .before .before .before .before .before .before .before .before .before .before .before .before .before .before .before .before .args in
+    let o = c .before .before .before .before .before .before .before .before .before .before .before .before .before .before .open-feed .ensures in
+    let f = c .before .before .before .before .before .before .before .before .before .before .before .before .opened .given in
+    let fed = c .before .before .before .before .before .before .before .before .before .push-all in
+    let kept = c .before .before .before .before .kept-len .ensures in
+    let e = sym o ∙ f .1 in (
+      total-opened (a .lengths .now) (a .stream .now) (a .buffer .now) _ _ e _ (fed .ensures .0),
+      (
+        buffer-opened (a .lengths .now) (a .stream .now) (a .buffer .now) _ _ e _ (fed .ensures .0) _ (fed .ensures .1),
+        c .before .before .put-pushed .ensures
+            ∙ ap (sets (a .out .now) 0) (bytes-opened (a .lengths .now) (a .stream .now) (a .buffer .now) _ _ e _ (fed .ensures .0) _ kept),
+      ),
+    )
+
+same-length-3 : tie.Need-same-length-3
+same-length-3 c = search needs
+
+same-length-4 : tie.Need-same-length-4
+same-length-4 c = search needs
+
+returns-2 : tie.Need-returns-2
+returns-2 c =
+    let a = c .before .before .before .before .before .before .before .before .before .before .before .before .before .args in
+    let e = sym (c .before .before .before .before .before .before .before .open-feed .ensures) ∙ c .before .before .before .before .before .opened2 .given .1 in (
+      total-refused (a .lengths .now) (a .stream .now) (a .buffer .now) _ _ e,
+      (
+        buffer-refused (a .lengths .now) (a .stream .now) (a .buffer .now) _ _ e,
+        c .before .before .put-pushed2 .ensures
+            ∙ ap (sets (a .out .now) 0) (bytes-refused (a .lengths .now) (a .stream .now) (a .buffer .now) _ _ e),
+      ),
+    )
+
+pub kudireppa-feed-spec : {M : Type 1} → statement M
+kudireppa-feed-spec =
+    tie.close
+    (tie.spec
+    open-feed-requires
+    enum-known-opened
+    push-all-requires
+    kept-len-requires
+    put-pushed-requires
+    enum-known-opened-2
+    put-pushed-requires-2
+    same-length
+    same-length-2
+    returns
+    same-length-3
+    same-length-4
+    returns-2)

@@ -1,0 +1,60 @@
+-- `exports::put_pushed` meets its contract: sixteen stores are one.
+use Prim.Native.Nat.{ℕ}
+use mathlib.Core.Path.{ap, _∙_}
+use mathlib.Core.List.{List}
+use lib.Seq.{sets}
+use borrow.Author.Needs.{needs}
+use Rattle.fields.specs.Numbers.{beBytes}
+use Rattle.message.specs.declared.Answer.{Answer}
+use Rattle.exports.specs.Exports.{answerBytes}
+use Rattle.exports.proofs.Laws.{pushed-stored}
+use Rattle.exports.proofs.put_pushed.Statement.{statement}
+use Rattle.exports.proofs.put_pushed.Tie as tie
+
+push-read-requires : tie.Need-push-read-requires
+push-read-requires c κs = search needs
+
+put-answer-requires : tie.Need-put-answer-requires
+put-answer-requires c κs = search needs
+
+push-code-requires : tie.Need-push-code-requires
+push-code-requires c κs = search needs
+
+put64-requires : tie.Need-put64-requires
+put64-requires c κs = search needs
+
+put64-requires-2 : tie.Need-put64-requires-2
+put64-requires-2 c κs = search needs
+
+put64-requires-3 : tie.Need-put64-requires-3
+put64-requires-3 c κs = search needs
+
+same-length : tie.Need-same-length
+same-length c = search needs
+
+returns : tie.Need-returns
+returns c =
+    let a = c .before .before .before .before .before .before .before .before .before .before .before .before .before .before .before .before .before .before .before .args in
+    let read = c .before .before .before .before .before .before .before .before .before .before .before .before .before .before .before .before .before .push-read .ensures in
+    let answer = c .before .before .before .before .before .before .before .before .before .before .before .before .before .before .before .put-answer .ensures in
+    let code = c .before .before .before .before .before .before .before .before .before .before .before .before .push-code .ensures in
+    c .before .before .put643 .ensures
+    ∙ ap (λ (o : List ℕ). sets o 120 (beBytes 8 (a .kept)))
+    (c .before .before .before .before .before .before .put642 .ensures
+    ∙ ap (λ (o : List ℕ). sets o 112 (beBytes 8 (a .taken)))
+    (c .before .before .before .before .before .before .before .before .before .before .put64 .ensures
+    ∙ (λ i. sets ((answer ∙ ap (λ (x : Answer). sets (a .out .now) 0 (answerBytes x)) read) i) 104 (beBytes 8 (code i)))))
+    ∙ pushed-stored (a .out .now) (a .answer) (a .taken) (a .kept)
+
+pub put-pushed-spec : {M : Type 1} → statement M
+put-pushed-spec =
+    tie.close
+    (tie.spec
+    push-read-requires
+    put-answer-requires
+    push-code-requires
+    put64-requires
+    put64-requires-2
+    put64-requires-3
+    same-length
+    returns)

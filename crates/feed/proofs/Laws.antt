@@ -1,0 +1,10 @@
+-- The laws of the definitions in specs/, which the proofs of this crate cite.
+
+pub mod Stores
+pub mod Rows
+pub mod Pushes
+pub mod Readings
+pub mod Cuts
+pub mod Answers
+pub mod Feeds
+pub mod Code

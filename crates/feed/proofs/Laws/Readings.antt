@@ -1,0 +1,118 @@
+-- Reading a stream from its front: a message and what follows it, an unfinished tail, a header that is refused.
+use Prim.Native.Nat.{ℕ, zero, suc, _+_, _≤_, _<_}
+use mathlib.Core.Path.{_≡_, sym, ap, ap₂, _∙_}
+use mathlib.Core.Bool.{Bool, true, false, cond, _&&_}
+use mathlib.Core.List.{List, [], _∷_, _++_}
+use native.Mathlib.Omega.{arith}
+use lib.Dec.{eqb, leb, ltb}
+use lib.ListN.{length, drop, length-append, length-drop}
+use lib.Seq.{take-append-le, drop-at}
+use borrow.Author.Tests.{eq-eqb, ne-eqb, le-leb, lt-leb, lt-ltb, le-ltb}
+use Rattle.fields.proofs.Laws.Tests.{by-zero, cond-yes, cond-no}
+use Rattle.header.specs.Check.{headerFault}
+use Rattle.header.proofs.Laws.Faults.{fault-short}
+use Rattle.header.proofs.Laws.Front.{fault-whole}
+use Rattle.message.specs.declared.Answer.{Answer}
+use Rattle.message.specs.Check.{readOf, refused}
+use Rattle.message.proofs.Laws.Stream.{step-within}
+use Rattle.message.proofs.Laws.Read.{header-refused}
+use Rattle.message.proofs.Laws.Front.{read-front, read-begun, read-whole-step}
+use Rattle.feed.specs.Reading.{Reading, endOf, answerFor, tailKept, behind, readingWithin, readingOf}
+use Rattle.feed.proofs.Laws.Rows.{short-fault}
+use Rattle.feed.proofs.Laws.Pushes.{Whole}
+
+-- ---- one step of the reading
+
+module _ (room n : ℕ) (s : List ℕ) where
+  abbrev tail : Reading
+  tail = record { answers = []; kept = tailKept room s; stopped = false }
+
+  abbrev refusal : Reading
+  refusal = record { answers = readOf s ∷ []; kept = []; stopped = true }
+
+  abbrev next : Reading
+  next = behind (answerFor room (readOf s) ∷ []) (readingWithin room n (drop (readOf s .step) s))
+
+  within-ends : readOf s .step ≡ 0 → readingWithin room (suc n) s ≡ cond (eqb (readOf s .number) 1) tail refusal
+  unfolding readingWithin
+  within-ends e = cond-yes (eqb (readOf s .step) 0) _ _ (eq-eqb (readOf s .step) 0 e)
+
+  within-next : (readOf s .step ≡ 0 → ⊥) → readingWithin room (suc n) s ≡ next
+  unfolding readingWithin
+  within-next e = cond-no (eqb (readOf s .step) 0) _ _ (ne-eqb (readOf s .step) 0 e)
+
+-- more messages than there can be change nothing
+within-enough : (room n m : ℕ) (s : List ℕ) → length s < n → length s < m → readingWithin room n s ≡ readingWithin room m s
+within-enough room zero m s h k = absurd (omega (arith, h))
+within-enough room (suc n) zero s h k = absurd (omega (arith, k))
+within-enough room (suc n) (suc m) s h k =
+    by-zero (readOf s .step)
+    (λ e. within-ends room n s e ∙ sym (within-ends room m s e))
+    (λ e.
+    let d : List ℕ = drop (readOf s .step) s in
+    let l : length d < length s = omega (arith, length-drop (readOf s .step) s, step-within s, e) in
+    within-next room n s e
+    ∙ ap (behind (answerFor room (readOf s) ∷ [])) (within-enough room n m d (omega (arith, l, h)) (omega (arith, l, k)))
+    ∙ sym (within-next room m s e))
+
+-- ---- a message at the front
+
+module _ (room : ℕ) (m : List ℕ) (w : Whole m) where
+  whole-step : readOf m .step ≡ endOf m
+  whole-step = read-whole-step m (w .front)
+
+  pub answer-fits : endOf m ≤ room → answerFor room (readOf m) ≡ readOf m
+  answer-fits h = cond-yes (leb (readOf m .step) room) _ _ (le-leb (readOf m .step) room (omega (arith, whole-step, h)))
+
+  pub answer-exceeds : room < endOf m → answerFor room (readOf m) ≡ refused 20 (endOf m)
+  answer-exceeds h =
+      cond-no (leb (readOf m .step) room) _ _ (lt-leb (readOf m .step) room (omega (arith, whole-step, h))) ∙ ap (refused 20) whole-step
+
+  pub reading-message : (x : List ℕ) → readingOf room (m ++ x) ≡ behind (answerFor room (readOf m) ∷ []) (readingOf room x)
+  reading-message x =
+      let s : List ℕ = m ++ x in
+      let a : readOf m ≡ readOf s = read-front m s (w .front) (sym (take-append-le (endOf m) m x (omega (arith, w .size)))) in
+      let e : readOf s .step ≡ endOf m = ap (λ (q : Answer). q .step) (sym a) ∙ whole-step in
+      let l : length s ≡ length m + length x = length-append m x in
+      within-next room (length s) s (λ z. omega (arith, z, e))
+      ∙ ap₂ (λ (q : Answer) (d : List ℕ). behind (answerFor room q ∷ []) (readingWithin room (length s) d)) (sym a)
+      (ap (λ (k : ℕ). drop k s) e ∙ drop-at m x (endOf m) (w .size))
+      ∙ ap (behind (answerFor room (readOf m) ∷ [])) (within-enough room (length s) (suc (length x)) x (omega (arith, l, w .size)) (omega arith))
+
+-- ---- what is left behind the messages
+
+module _ (room : ℕ) (s : List ℕ) where
+  unfinished : readOf s ≡ refused 1 0 → readingOf room s ≡ record { answers = []; kept = tailKept room s; stopped = false }
+  unfinished a =
+      within-ends room (length s) s (ap (λ (q : Answer). q .step) a)
+      ∙ cond-yes (eqb (readOf s .number) 1) _ _ (eq-eqb (readOf s .number) 1 (ap (λ (q : Answer). q .number) a))
+
+  tail-is : (k : List ℕ) → tailKept room s ≡ k
+      → _≡_ {A = Reading} (record { answers = []; kept = tailKept room s; stopped = false }) (record { answers = []; kept = k; stopped = false })
+  tail-is k e = λ i. record { answers = []; kept = e i; stopped = false }
+
+  -- a header that is not whole
+  pub reading-short : length s < 58 → readingOf room s ≡ record { answers = []; kept = s; stopped = false }
+  reading-short h =
+      unfinished (header-refused s (short-fault s h) ∙ ap (λ (n : ℕ). refused n 0) (fault-short s h))
+      ∙ tail-is s (ap (λ (b : Bool). cond (b && ltb room (endOf s)) [] s) (ne-eqb (headerFault s) 0 (short-fault s h)))
+
+  -- a message that fits, and one that exceeds the buffer
+  pub reading-part : headerFault s ≡ 0 → length s < endOf s → endOf s ≤ room → readingOf room s ≡ record { answers = []; kept = s; stopped = false }
+  reading-part z h k =
+      unfinished (read-begun s z h)
+      ∙ tail-is s (ap₂ (λ (a b : Bool). cond (a && b) [] s) (eq-eqb (headerFault s) 0 z) (le-ltb room (endOf s) k))
+
+  pub reading-passed : headerFault s ≡ 0 → length s < endOf s → room < endOf s → readingOf room s ≡ record { answers = []; kept = []; stopped = false }
+  reading-passed z h k =
+      unfinished (read-begun s z h)
+      ∙ tail-is [] (ap₂ (λ (a b : Bool). cond (a && b) [] s) (eq-eqb (headerFault s) 0 z) (lt-ltb room (endOf s) k))
+
+  -- a header that is refused
+  pub reading-wrong : 58 ≤ length s → (headerFault s ≡ 0 → ⊥)
+      → readingOf room s ≡ record { answers = refused (headerFault s) 0 ∷ []; kept = []; stopped = true }
+  reading-wrong h z =
+      let a : readOf s ≡ refused (headerFault s) 0 = header-refused s z in
+      within-ends room (length s) s (ap (λ (q : Answer). q .step) a)
+      ∙ cond-no (eqb (readOf s .number) 1) _ _ (ne-eqb (readOf s .number) 1 (λ e. fault-whole s h (sym (ap (λ (q : Answer). q .number) a) ∙ e)))
+      ∙ (λ i. record { answers = a i ∷ []; kept = []; stopped = true })

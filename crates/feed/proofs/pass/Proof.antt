@@ -1,0 +1,55 @@
+-- `feed::pass` meets its contract: some of the message is left, or its last byte has passed.
+use mathlib.Core.Path.{sym, ap, ap₂, _∙_}
+use borrow.Author.Needs.{needs}
+use Rattle.message.specs.declared.Answer.{Answer}
+use Rattle.feed.specs.declared.Feed.{Feed}
+use Rattle.feed.specs.declared.PushAnswer.the-variants.{Nothing, Read}
+use Rattle.feed.specs.Push.{pushed}
+use Rattle.feed.proofs.Laws.Rows.{passed-part, passed-whole}
+use Rattle.feed.proofs.pass.Statement.{statement}
+use Rattle.feed.proofs.pass.Tie as tie
+
+sub-passing : tie.Need-sub-passing
+sub-passing c = search needs
+
+passing-requires : tie.Need-passing-requires
+passing-requires c κs = search needs
+
+waits-requires : tie.Need-waits-requires
+waits-requires c κs = search needs
+
+returns : tie.Need-returns
+returns c =
+    let a = c .before .before .before .args in
+    c .waits .ensures
+    ∙ ap (λ (f : Feed). pushed Nothing f (a .n)) (c .before .passing .ensures)
+    ∙ sym (passed-part (a .room) (a .step) (a .left) (a .n) (c .before .before .if1 .taken))
+
+keeping-requires : tie.Need-keeping-requires
+keeping-requires c κs = search needs
+
+refusal-requires : tie.Need-refusal-requires
+refusal-requires c κs = search needs
+
+answers-requires : tie.Need-answers-requires
+answers-requires c κs = search needs
+
+returns-2 : tie.Need-returns-2
+returns-2 c =
+    let a = c .before .before .before .before .args in
+    c .answers .ensures
+    ∙ ap₂ (λ (f : Feed) (x : Answer). pushed (Read x) f (a .left)) (c .before .before .keeping .ensures) (c .before .refusal .ensures)
+    ∙ sym (passed-whole (a .room) (a .step) (a .left) (a .n) (c .before .before .before .if1 .left))
+
+pub pass-spec : {M : Type 1} → statement M
+pass-spec =
+    tie.close
+    (tie.spec
+    sub-passing
+    passing-requires
+    waits-requires
+    returns
+    keeping-requires
+    refusal-requires
+    answers-requires
+    returns-2)

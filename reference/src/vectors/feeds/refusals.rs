@@ -1,0 +1,60 @@
+//! A message for each number of the reader, between two sound ones.
+
+use super::{by_chance, feed, pieces, MEDIUM};
+use crate::feed::Pushes;
+use crate::random::Random;
+use crate::vectors::streams::between_sound_ones;
+
+const SEED: u64 = 19;
+
+/// In one piece, byte by byte, and by chance, also in a buffer that only a header fits.
+pub fn feeds() -> Vec<Pushes> {
+    let mut random = Random::new(SEED);
+    let feeds = between_sound_ones().into_iter().flat_map(|stream| {
+        let mut chance = |room| by_chance(&mut random, room, &stream, &[1, 2, 59, 90, 300]);
+        [
+            feed(MEDIUM, &[&stream]),
+            pieces(MEDIUM, &stream, 1),
+            chance(MEDIUM),
+            chance(110),
+            chance(58),
+        ]
+    });
+    feeds.collect()
+}
+
+#[cfg(test)]
+mod tests {
+    use super::feeds;
+    use crate::feed::Answer;
+    use crate::vectors::feeds::tests::answers;
+    use crate::vectors::feeds::MEDIUM;
+
+    /// 2 and 3 are the last answers; after each other number the message behind it is accepted.
+    #[test]
+    fn the_feed_goes_on_after_most_refused_messages() {
+        let feeds = feeds();
+        assert_eq!(feeds.len(), 50);
+        for (feed, place) in feeds.iter().zip(0..) {
+            let number = 2 + place / 5;
+            let expected = match (feed.room, number) {
+                (58, 2 | 3) => vec![20, number],
+                (58, _) => vec![20; 3],
+                (_, 2 | 3) => vec![0, number],
+                (MEDIUM, _) => vec![0, number, 0],
+                _ => continue,
+            };
+            assert_eq!(answers(feed), expected);
+        }
+    }
+
+    #[test]
+    fn what_follows_a_stop_is_refused() {
+        for feed in &feeds()[..10] {
+            let pushes = feed.join().unwrap().pushes();
+            let last = pushes.last().unwrap();
+            assert_eq!((last.taken, last.kept), (0, 0));
+            assert!(matches!(last.answer, Answer::Refused(fault) if fault as u8 == 21));
+        }
+    }
+}
