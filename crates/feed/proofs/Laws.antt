@@ -5,6 +5,7 @@ pub mod Rows
 pub mod Pushes
 pub mod Readings
 pub mod Cuts
+pub mod Sent
 pub mod Answers
 pub mod Feeds
 pub mod Code

@@ -3,11 +3,13 @@
 use Prim.Native.Nat.{ℕ, _+_, _≤_, _<_}
 use mathlib.Core.Path.{_≡_}
 use mathlib.Core.Bool.{true, false}
-use mathlib.Core.List.{List, _++_}
+use mathlib.Core.List.{List, [], _++_, map}
 use lib.Dec.{eqb}
 use lib.ListN.{length, take, getD}
 use Rattle.message.specs.declared.Answer.{Answer}
+use Rattle.fields.specs.Lists.{Each, flat}
 use Rattle.header.specs.Check.{headerFault}
+use Rattle.message.specs.Message.{WellFormed, Message, encode}
 use Rattle.message.specs.Check.{readOf, refused}
 use Rattle.feed.specs.declared.Feed.{Feed}
 use Rattle.feed.specs.declared.OpenAnswer.the-variants as opening
@@ -32,6 +34,14 @@ pub record Cuts : Type 0 where
   -- two runs that took the same bytes
   pub any-cut : (a b : List ℕ) (ss ts : List (List ℕ)) → 58 ≤ length a → length a ≡ length b → run a ss .taken ≡ run b ts .taken
       → readBy (run a ss) ≡ readBy (run b ts)
+
+-- messages that fit the buffer, sent one after the other: when their bytes have been taken, each was answered as it is by itself, which is
+-- accepted (`Demand2`, begun), and nothing is kept
+abbrev pub Sent : Type 0
+Sent =
+    (buf : List ℕ) (ss : List (List ℕ)) (ms : List Message) → 58 ≤ length buf → Each (λ m. WellFormed m × (length (encode m) ≤ length buf)) ms
+    → run buf ss .taken ≡ flat encode ms
+    → readBy (run buf ss) ≡ record { answers = map (λ m. readOf (encode m)) ms; kept = []; stopped = false }
 
 -- a push of a run gave the answer a, and left this feed and this buffer. Where a's step is not above the buffer's length, a is the reader's
 -- answer to the buffer. Otherwise it is 20 with the length of a message that exceeds the buffer; its header is at the buffer's front and
@@ -73,6 +83,7 @@ pub record Refuses (f : Feed) (s buf : List ℕ) : Type 0 where
 
 pub record Feeds : Type 0 where
   pub cuts : Cuts
+  pub sent : Sent
   pub answers : (buf : List ℕ) (ss : List (List ℕ)) (s : List ℕ) (a : Answer) → 58 ≤ length buf
       → pushOf (run buf ss .feed) s (run buf ss .buffer) .answer ≡ Read a → Answers (after (run buf ss) s .feed) (after (run buf ss) s .buffer) a
   pub takes : (f : Feed) (s buf : List ℕ) → Takes f s buf

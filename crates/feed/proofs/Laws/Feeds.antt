@@ -2,7 +2,8 @@
 use Rattle.feed.specs.Feeds.{Feeds}
 use Rattle.feed.proofs.Laws.Pushes.{takes, writes, refusals}
 use Rattle.feed.proofs.Laws.Cuts.{cuts}
+use Rattle.feed.proofs.Laws.Sent.{sent}
 use Rattle.feed.proofs.Laws.Answers.{answers}
 
 pub feeds : Feeds
-feeds = record { cuts = cuts; answers = answers; takes = takes; writes = writes; refuses = refusals }
+feeds = record { cuts = cuts; sent = sent; answers = answers; takes = takes; writes = writes; refuses = refusals }
