@@ -36,7 +36,8 @@ pub enum Fault {
     Full = 18,
     /// No such tile, child or key.
     NotFound = 19,
-    /// A buffer too short for what is written, or of another length than a feed's.
+    /// A buffer too short for what is written, for a feed, or for a message of a feed; or of another
+    /// length than the feed's.
     Room = 20,
     /// A feed that has answered 2 or 3.
     Stopped = 21,

@@ -75,7 +75,7 @@ pub record Examples : Type 0 where
   pub fed-buffer : fedBuffer (openOf 58) twoLengths zeroStream (replicate 58 9) ≡ replicate 58 0
   -- 257 bytes are offered, so that all is taken that the feed takes; three bytes are no length
   pub fed-more : fedTotal (openOf 58) (0 ∷ 0 ∷ 1 ∷ 1 ∷ 0 ∷ 0 ∷ 0 ∷ []) zeroStream (replicate 58 9) ≡ 58
-  -- one of 57 bytes
+  -- a buffer of 57 bytes: the opening is refused
   pub fed-refused : fedBytes (openOf 57) twoLengths zeroStream (replicate 57 9) ≡ pushedBytes (pushing.Refused 20) 0 0
   pub fed-nothing : fedTotal (openOf 57) twoLengths zeroStream (replicate 57 9) ≡ 0
   pub fed-unwritten : fedBuffer (openOf 57) twoLengths zeroStream (replicate 57 9) ≡ replicate 57 9

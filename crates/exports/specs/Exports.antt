@@ -1,4 +1,4 @@
--- Answers as bytes: each number in eight.
+-- Answers as bytes, each number in eight; and a stream pushed in pieces of given lengths.
 use Prim.Native.Nat.{ℕ, zero, suc, _+_, _/_}
 use mathlib.Core.List.{List, [], _∷_, _++_}
 use lib.ListN.{length, replicate, drop}
@@ -16,7 +16,7 @@ use Rattle.feed.specs.declared.PushAnswer.{PushAnswer}
 use Rattle.feed.specs.declared.PushAnswer.the-variants.{Nothing, Read}
 use Rattle.feed.specs.declared.PushAnswer.the-variants as pushing
 use Rattle.feed.specs.declared.PushResult.{PushResult}
-use Rattle.feed.specs.Push.{pushed, pushOf, bufferOf}
+use Rattle.feed.specs.Push.{pushed, keptLen, pushOf, bufferOf}
 use Rattle.exports.specs.declared.Fed.{Fed}
 use Rattle.replay.specs.declared.CallAnswer.{CallAnswer}
 use Rattle.replay.specs.declared.CallAnswer.the-variants.{Accepted, Added, Empty, Green, Grey, Refused, NoCall}
@@ -74,6 +74,7 @@ unfoldable pub fedFor : ℕ → List ℕ → List ℕ → Fed → List ℕ → F
 fedFor zero lengths s r buf = (r, buf)
 fedFor (suc k) lengths s r buf = let x = fedOnce (beAt 4 0 lengths) s r buf in fedFor k (drop 4 lengths) s (x .0) (x .1)
 
+-- as many pushes as `lengths` has four bytes
 abbrev pub fedBy : List ℕ → List ℕ → Fed → List ℕ → Fed × List ℕ
 fedBy lengths s r buf = fedFor (length lengths / 4) lengths s r buf
 
@@ -88,7 +89,7 @@ fedBuffer (opening.Refused n) lengths s buf = buf
 
 abbrev pub fedBytes : OpenAnswer → List ℕ → List ℕ → List ℕ → List ℕ
 fedBytes (opening.Opened f) lengths s buf =
-    let p : PushResult = fedBy lengths s (started f) buf .0 .last in pushedBytes (p .answer) (p .taken) (p .feed .kept)
+    let p : PushResult = fedBy lengths s (started f) buf .0 .last in pushedBytes (p .answer) (p .taken) (keptLen (p .feed))
 fedBytes (opening.Refused n) lengths s buf = pushedBytes (pushing.Refused n) 0 0
 
 -- ---- scripts

@@ -4,7 +4,6 @@ use feed::Feed;
 use feed::OpenAnswer;
 use feed::PushAnswer;
 use feed::PushResult;
-use fields::Written;
 use message::Answer;
 use message::FixedFields;
 use replay::Answered;

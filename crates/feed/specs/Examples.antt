@@ -76,7 +76,7 @@ pub record Examples : Type 0 where
       (long ++ filled 2)
   pub passed : Said (run (filled 60) ((long ++ replicate 90 5) ∷ replicate 9 6 ∷ [] ∷ (7 ∷ 8 ∷ []) ∷ [])) (refused 20 158 ∷ []) (state 60 0 0 0 false)
       (long ++ (replicate 90 5 ++ (replicate 9 6 ++ (7 ∷ [])))) (long ++ filled 2)
-  -- one that begins like a header, in a fragment that ends with it; and messages of version 1, of which one has a wrong CRC
+  -- a body that begins like a header, in a fragment that ends with the body; then two messages of version 1, the first with a wrong CRC
   pub unread : Said (run (filled 60) (long ∷ (noBody ++ replicate 42 5) ∷ [])) (refused 20 158 ∷ []) (state 60 0 0 0 false) (long ++ (noBody ++ replicate 42 5))
       (long ++ filled 2)
   pub crc-unread : Said (run (filled 60) (damaged ∷ armBytes ∷ [])) (refused 20 106 ∷ refused 20 106 ∷ []) (state 60 0 0 0 false) (damaged ++ armBytes)

@@ -18,7 +18,7 @@ use Rattle.feed.specs.Push.{openOf, keptLen, keptIn, pushOf, bufferOf, p
 use Rattle.feed.specs.Reading.{endOf, readingOf}
 use Rattle.feed.specs.Runs.{after, opened, run, readBy}
 
--- of an opening, and of a run of pushes from it
+-- of an opening, and of a run of pushes from it (rules 12.2, 12.3, 12.6 to 12.9)
 pub record Cuts : Type 0 where
   pub too-short : (buf : List ℕ) → length buf < 58 → openOf (length buf) ≡ opening.Refused 20
   pub opens : (buf : List ℕ) → 58 ≤ length buf → openOf (length buf) ≡ opening.Opened (opened buf .feed)
@@ -45,7 +45,8 @@ Sent =
 
 -- a push of a run gave the answer a, and left this feed and this buffer. Where a's step is not above the buffer's length, a is the reader's
 -- answer to the buffer. Otherwise it is 20 with the length of a message that exceeds the buffer; its header is at the buffer's front and
--- passes checks 2 and 3. A step of 0 stops the feed, and no other does. Nothing is kept
+-- passes checks 2 and 3. A step of 0 stops the feed, and no other does. Nothing is kept (rules
+-- 12.6 to 12.9)
 pub record Answers (f : Feed) (buf : List ℕ) (a : Answer) : Type 0 where
   pub fits : a .step ≤ length buf → readOf buf ≡ a
   pub exceeds : length buf < a .step → (headerFault buf ≡ 0) × (a ≡ refused 20 (endOf buf))
@@ -53,15 +54,15 @@ pub record Answers (f : Feed) (buf : List ℕ) (a : Answer) : Type 0 where
   pub none-kept : keptLen f ≡ 0
 
 -- what a push takes, for every feed and buffer: at most the fragment; all of it where there is no answer; and an answer comes with the last
--- byte taken, since fewer give none
+-- byte taken, since fewer give none (rule 12.3)
 pub record Takes (f : Feed) (s buf : List ℕ) : Type 0 where
   pub most : pushOf f s buf .taken ≤ length s
   pub all : pushOf f s buf .answer ≡ Nothing → pushOf f s buf .taken ≡ length s
   pub no-sooner : (n : ℕ) → n < pushOf f s buf .taken → pushOf f (take n s) buf .answer ≡ Nothing
 
 -- what it writes: only bytes that it takes, behind those kept; none past the header of a message that exceeds the buffer; none of one that
--- is passed over. A header that is whole lies at the buffer's front, and so does a message, unless the answer is 20: it is the
--- reader's answer to the buffer
+-- is passed over. A header that is whole lies at the buffer's front, and so does a message, unless the answer is 20. Any other
+-- answer is the reader's answer to the buffer (rules 12.5, 12.7 and 12.10)
 pub record Writes (f : Feed) (s buf : List ℕ) : Type 0 where
   pub same-length : length (bufferOf f s buf) ≡ length buf
   pub before : (i : ℕ) → i < length (keptIn f buf) → getD (bufferOf f s buf) i 0 ≡ getD buf i 0
@@ -74,7 +75,7 @@ pub record Writes (f : Feed) (s buf : List ℕ) : Type 0 where
       → take (a .step) (bufferOf f s buf) ≡ take (a .step) (keptIn f buf ++ s)
   pub in-front : (a : Answer) → pushOf f s buf .answer ≡ Read a → (a .number ≡ 20 → ⊥) → readOf (bufferOf f s buf) ≡ a
 
--- when it is refused; and then it changes nothing and takes nothing
+-- when it is refused; and then it changes nothing and takes nothing (rules 1.3 and 12.2)
 pub record Refuses (f : Feed) (s buf : List ℕ) : Type 0 where
   pub stopped-first : f .stopped ≡ true → pushOf f s buf .answer ≡ Refused 21
   pub other-length : f .stopped ≡ false → (length buf ≡ f .room → ⊥) → pushOf f s buf .answer ≡ Refused 20

@@ -29,11 +29,11 @@ keeping room kept = stateOf room kept 0 0 false
 abbrev pub passing : ℕ → ℕ → ℕ → Feed
 passing room step left = stateOf room 0 step left false
 
--- one that has answered 2 or 3
+-- one that has answered 2 or 3 (rule 12.9)
 abbrev pub stoppedFeed : ℕ → Feed
 stoppedFeed room = stateOf room 0 0 0 true
 
--- over a buffer of so many bytes; 20 for fewer than 58
+-- over a buffer of so many bytes; 20 for fewer than 58 (rule 12.2)
 unfoldable pub openOf : ℕ → OpenAnswer
 openOf room = cond (ltb room 58) (opening.Refused 20) (opening.Opened (keeping room 0))
 
@@ -42,18 +42,18 @@ openOf room = cond (ltb room 58) (opening.Refused 20) (opening.Opened (keeping r
 abbrev pub pushed : PushAnswer → Feed → ℕ → PushResult
 pushed a f n = record { feed = f; answer = a; taken = n }
 
--- 21, then 20 for a buffer of another length, or of fewer bytes than 58
+-- 21, then 20 for a buffer of another length, or of fewer bytes than 58 (rule 12.2)
 unfoldable pub pushFault : Feed → ℕ → ℕ
 pushFault f room = cond (f .stopped) 21 (cond (eqb room (f .room)) (roomFault 58 room) 20)
 
--- how many bytes are kept, and which: those at the buffer's front
+-- how many bytes are kept, and which: those at the buffer's front (rule 12.8)
 abbrev pub keptLen : Feed → ℕ
 keptLen f = f .kept
 
 abbrev pub keptIn : Feed → List ℕ → List ℕ
 keptIn f buf = take (keptLen f) buf
 
--- a fragment of n bytes, where a message of step bytes is passed over and so many are left
+-- a fragment of n bytes, where a message of step bytes is passed over and so many are left (rule 12.7)
 unfoldable pub passedOf : ℕ → ℕ → ℕ → ℕ → PushResult
 passedOf room step left n =
     cond (ltb n left) (pushed Nothing (passing room step (left - n)) n) (pushed (Read (refused 20 step)) (keeping room 0) left)
@@ -63,7 +63,8 @@ unfoldable pub fittingOf : ℕ → ℕ → ℕ → List ℕ → ℕ → PushResu
 fittingOf room k n u e =
     cond (ltb (length u) e) (pushed Nothing (keeping room (length u)) n) (pushed (Read (readOf (take e u))) (keeping room 0) (e - k))
 
--- the same u: its header is not whole, or it is refused, or its message fits the buffer, or it exceeds it
+-- the same u: its header is not whole, or it is refused, or its message fits the buffer, or it exceeds it (rules 12.3
+-- and 12.4)
 unfoldable pub takenIn : ℕ → ℕ → ℕ → List ℕ → PushResult
 takenIn room k n u =
     cond (ltb (length u) 58) (pushed Nothing (keeping room (length u)) n)
@@ -79,7 +80,8 @@ pushOf f s buf =
 
 -- ---- the buffer
 
--- up to which of its bytes the message at the front of u goes to the buffer: to the header's end, or to its own where it fits
+-- up to which of its bytes the message at the front of u goes to the buffer: to the header's end, or to its own where it fits (rules
+-- 12.5 and 12.7)
 unfoldable pub storedTo : ℕ → List ℕ → ℕ
 storedTo room u = cond (eqb (headerFault u) 0 && leb (endOf u) room) (endOf u) 58
 

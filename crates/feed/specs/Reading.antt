@@ -27,7 +27,7 @@ answerFor room a = cond (leb (a .step) room) a (refused 20 (a .step))
 abbrev pub tailKept : ℕ → List ℕ → List ℕ
 tailKept room s = cond (eqb (headerFault s) 0 && ltb room (endOf s)) [] s
 
--- these answers came before
+-- r, with these answers before its own
 abbrev pub behind : List Answer → Reading → Reading
 behind xs r = record { answers = xs ++ r .answers; kept = r .kept; stopped = r .stopped }
 
@@ -40,6 +40,6 @@ readingWithin room (suc n) s =
     (cond (eqb (readOf s .number) 1) (record { answers = []; kept = tailKept room s; stopped = false }) (record { answers = readOf s ∷ []; kept = []; stopped = true }))
     (behind (answerFor room (readOf s) ∷ []) (readingWithin room n (drop (readOf s .step) s)))
 
--- a message has at least 58 bytes, so there are fewer messages than bytes
+-- a message has at least 58 bytes, so there are no more messages than bytes
 abbrev pub readingOf : ℕ → List ℕ → Reading
 readingOf room s = readingWithin room (suc (length s)) s

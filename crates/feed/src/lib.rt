@@ -125,7 +125,7 @@ fn least(a: usize, b: usize) -> usize
     if a <= b { a } else { b }
 }
 
-// How many bytes are missing from the bytes kept to this place; 0 where there are as many.
+// How many bytes are missing behind those kept, up to this place; 0 where none are.
 fn missing(kept: usize, to: usize) -> usize
     ensures { λ r. ⌜ r ≡ to - kept ⌝ }
 {

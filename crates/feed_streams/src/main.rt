@@ -89,6 +89,7 @@ fn push_whole(feed: Feed, fragment: &[u8], buffer: &mut [u8]) -> Feed {
     after_all
 }
 
+// Two bytes are never more than `lent` has; the slice needs the bound.
 fn least(a: usize, b: usize) -> usize
     ensures { λ r. ⌜ r ≡ min a b ⌝ }
 {

@@ -5,10 +5,10 @@ use crate::{feed, Pushed, FIELDS};
 use reference::fault::Fault;
 use reference::feed::{Answer, Joined, Push, Pushes};
 
-/// As many pushes of a run are compared, or one more. Each takes a run of its own.
+/// At most so many pushes of a run are compared. Each takes a run of its own.
 const COMPARED: usize = 4;
 
-/// The answers to each push, or to the opening where it is refused.
+/// The answers to the pushes that are compared, or to the opening where it is refused.
 pub fn compare_feed(pushes: &Pushes) -> Result<Vec<Label>, Difference> {
     let stream: Vec<u8> = pushes
         .fragments
@@ -31,7 +31,8 @@ fn compare_opening(pushes: &Pushes, stream: &[u8], fault: Fault) -> Result<Label
     Ok(label(&answer))
 }
 
-/// A short run is compared after each push, a long one after some of them and after the last.
+/// A run of up to three pushes is compared after each, a longer one after some of them and after the
+/// last.
 fn compare_pushes(
     pushes: &Pushes,
     joined: &Joined,

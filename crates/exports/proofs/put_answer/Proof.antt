@@ -3,10 +3,9 @@ use mathlib.Core.Path.{ap, _∙_}
 use mathlib.Core.List.{List}
 use Prim.Native.Nat.{ℕ}
 use lib.ListN.{replicate}
-use lib.Seq.{sets}
 use Rattle.fields.specs.Layout.{stores, numberFields}
 use Rattle.message.specs.declared.Answer.{Answer}
-use Rattle.exports.specs.Exports.{fieldNumbers, partNumbers, answerBytes}
+use Rattle.exports.specs.Exports.{fieldNumbers, partNumbers}
 use Rattle.exports.proofs.Laws.{answer-stored}
 use borrow.Author.Needs.{needs}
 use Rattle.exports.proofs.put_answer.Statement.{statement}

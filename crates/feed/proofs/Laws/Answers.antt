@@ -16,7 +16,7 @@ use Rattle.feed.specs.declared.PushAnswer.{PushAnswer}
 use Rattle.feed.specs.declared.PushAnswer.the-variants.{Read}
 use Rattle.feed.specs.declared.PushResult.{PushResult}
 use Rattle.feed.specs.Reading.{endOf}
-use Rattle.feed.specs.Push.{keeping, passing, stoppedFeed, pushOf, bufferOf, storedIn}
+use Rattle.feed.specs.Push.{keeping, passing, stoppedFeed, pushOf, bufferOf}
 use Rattle.feed.specs.Runs.{run, after}
 use Rattle.feed.specs.Feeds.{Answers}
 use Rattle.feed.proofs.Laws.Stores.{front-stored}

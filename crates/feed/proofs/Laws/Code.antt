@@ -117,9 +117,6 @@ module _ (k : ℕ) (s buf : List ℕ) (inside : k ≤ length buf) where
       out-long : length out ≡ length buf
       out-long = ap length g ∙ length-sets buf k (take (58 - k) s)
 
-      pub body-inside : 58 + r .«body_size» ≤ length buf → (k ≤ length out) × (58 + r .«body_size» ≤ length out)
-      body-inside m = (omega (arith, out-long, inside), omega (arith, out-long, m))
-
       pub header-fits : 58 + r .«body_size» ≤ length buf
           → (fittingOf (length out) k (length s) (take k out ++ s) (58 + r .«body_size») ≡ takenIn (length buf) k (length s) (take k buf ++ s))
           × (sets out k (take (58 + r .«body_size» - k) s) ≡ sets buf k (take (storedTo (length buf) (take k buf ++ s) - k) s))

@@ -310,9 +310,6 @@ module _ (room : ℕ) (large : 58 ≤ room) where
   one-push : (r : Run) (s : List ℕ) → Holds r → Holds (after r s)
   one-push r s (e, v) = (writes (r .feed) s (r .buffer) .same-length ∙ e, at room e large v)
     where
-      q : PushResult
-      q = pushOf (r .feed) s (r .buffer)
-
       at : (n : ℕ) → length (r .buffer) ≡ n → 58 ≤ n → Inv n (r .taken) (r .feed) (r .buffer) (r .answers)
           → Inv n (after r s .taken) (after r s .feed) (after r s .buffer) (after r s .answers)
       at n c = subst (λ (m : ℕ). 58 ≤ m → Inv m (r .taken) (r .feed) (r .buffer) (r .answers) → Inv m (after r s .taken) (after r s .feed) (after r s .buffer) (after r s .answers)) c

@@ -41,7 +41,7 @@ module _ (room n : ℕ) (s : List ℕ) where
   unfolding readingWithin
   within-next e = cond-no (eqb (readOf s .step) 0) _ _ (ne-eqb (readOf s .step) 0 e)
 
--- more messages than there can be change nothing
+-- a larger bound on the number of messages changes nothing
 within-enough : (room n m : ℕ) (s : List ℕ) → length s < n → length s < m → readingWithin room n s ≡ readingWithin room m s
 within-enough room zero m s h k = absurd (omega (arith, h))
 within-enough room (suc n) zero s h k = absurd (omega (arith, k))

@@ -1,7 +1,7 @@
 -- A push in nine cases.
 use Prim.Native.Nat.{ℕ, _-_, _≤_, _<_}
 use mathlib.Core.Path.{_≡_, sym, ap, ap₂, _∙_, subst}
-use mathlib.Core.Bool.{Bool, true, false, cond, _&&_}
+use mathlib.Core.Bool.{Bool, cond, _&&_}
 use mathlib.Core.List.{List, _++_}
 use native.Mathlib.Omega.{arith}
 use lib.Dec.{eqb, leb, ltb}
@@ -44,9 +44,6 @@ pub data Row (f : Feed) (s buf : List ℕ) : PushResult → List ℕ → Type 0 
       (storedIn f s buf (endOf (keptIn f buf ++ s)))
 
 module _ (f : Feed) (s buf : List ℕ) where
-  N : ℕ
-  N = length buf
-
   abbrev t : List ℕ
   t = keptIn f buf
 
@@ -117,11 +114,11 @@ module _ (room k n : ℕ) (u : List ℕ) where
   pub on-fitting : headerFault u ≡ 0 → endOf u ≤ room → takenIn room k n u ≡ fittingOf room k n u (endOf u)
   on-fitting z h = on-right z ∙ cond-yes (leb (endOf u) room) _ _ (le-leb (endOf u) room h)
 
-  pub on-part : headerFault u ≡ 0 → endOf u ≤ room → length u < endOf u → takenIn room k n u ≡ pushed Nothing (keeping room (length u)) n
+  on-part : headerFault u ≡ 0 → endOf u ≤ room → length u < endOf u → takenIn room k n u ≡ pushed Nothing (keeping room (length u)) n
   unfolding fittingOf
   on-part z h l = on-fitting z h ∙ cond-yes (ltb (length u) (endOf u)) _ _ (lt-ltb (length u) (endOf u) l)
 
-  pub on-whole : headerFault u ≡ 0 → endOf u ≤ room → endOf u ≤ length u
+  on-whole : headerFault u ≡ 0 → endOf u ≤ room → endOf u ≤ length u
       → takenIn room k n u ≡ pushed (Read (readOf (take (endOf u) u))) (keeping room 0) (endOf u - k)
   unfolding fittingOf
   on-whole z h l = on-fitting z h ∙ cond-no (ltb (length u) (endOf u)) _ _ (le-ltb (length u) (endOf u) l)

@@ -4,7 +4,7 @@ use crate::inputs;
 use crate::timing::{alternate, timer};
 use std::hint::black_box;
 
-/// As many bytes as the stream has, or a few less: whole messages.
+/// The stream has so many bytes, or a few less: whole messages.
 const LENGTH: usize = 16 << 20;
 
 /// More than a message has.

@@ -37,7 +37,7 @@ fn other_lengths() -> Vec<Pushes> {
     feeds.collect()
 }
 
-/// A header answered 2, then pushes with buffers of every length: 21 comes before 20.
+/// A header answered 2, then pushes with buffers of several lengths: 21 comes before 20.
 fn after_a_stop() -> Vec<Pushes> {
     let wrong = set(&status(), 2, 0x80);
     let rooms = [58, 60].map(|room| {

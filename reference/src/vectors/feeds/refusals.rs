@@ -1,4 +1,4 @@
-//! A message for each number of the reader, between two sound ones.
+//! A message for each number from 2 to 11, between two sound ones.
 
 use super::{by_chance, feed, pieces, MEDIUM};
 use crate::feed::Pushes;
