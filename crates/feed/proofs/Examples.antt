@@ -1,19 +1,27 @@
 -- The examples, by computation; the answers to the messages of version 1 are those of the samples.
-use mathlib.Core.Path.{refl}
-use mathlib.Core.List.{[], _∷_}
+use Prim.Native.Nat.{ℕ, _≤_}
+use mathlib.Core.Path.{refl, sym, ap}
+use mathlib.Core.List.{List, [], _∷_, _++_}
+use native.Mathlib.Omega.{arith}
+use lib.ListN.{length}
 use Rattle.fields.specs.Answer.{roomFault}
-use Rattle.fields.specs.Lists.{all}
+use Rattle.fields.specs.Lists.{all, flat}
 use Rattle.fields.specs.Numbers.{beVal}
 use Rattle.fields.specs.Text.{isText, textOf, pastText, allZero, textOk, textClean, fieldOk}
 use Rattle.header.specs.Check.{headerOf, shortFault, textsFault, limitFault, headerFault}
 use Rattle.message.specs.Check.{wholeFault, versionFault, bodyChecks, frontFault, numberOf, stepOf, readOf}
+use Rattle.message.specs.Message.{WellFormed, encode}
+use Rattle.message.specs.Samples.{armMessage}
 use Rattle.message.proofs.Samples.{samples}
 use Rattle.feed.specs.Push.{openOf, pushFault, passedOf, fittingOf, takenIn, pushOf, storedTo, bufferOf}
 use Rattle.feed.specs.Runs.{runOn}
 use Rattle.feed.specs.Examples.{Examples}
 
+arm-sent : WellFormed armMessage × (length (encode armMessage) ≤ 108)
+arm-sent = (samples .arm .well, omega (arith, ap length (samples .arm .bytes)))
+
 pub examples : Examples
-unfolding roomFault all beVal isText textOf pastText allZero textOk textClean fieldOk headerOf shortFault textsFault limitFault headerFault wholeFault versionFault bodyChecks frontFault numberOf stepOf readOf openOf pushFault passedOf fittingOf takenIn pushOf storedTo bufferOf runOn
+unfolding roomFault all flat beVal isText textOf pastText allZero textOk textClean fieldOk headerOf shortFault textsFault limitFault headerFault wholeFault versionFault bodyChecks frontFault numberOf stepOf readOf openOf pushFault passedOf fittingOf takenIn pushOf storedTo bufferOf runOn
 examples =
     record {
       too-short = refl;
@@ -41,6 +49,8 @@ examples =
             taken = refl;
             buffer = refl;
           };
+      sent = (arm-sent, (arm-sent, tt));
+      sent-taken = sym (ap (λ (s : List ℕ). s ++ (s ++ [])) (samples .arm .bytes));
       stopped = refl;
       longer = refl;
       shorter = refl;

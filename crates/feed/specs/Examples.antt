@@ -1,12 +1,14 @@
 -- Runs of pushes with a few messages whose bytes are known. They fix the numbers, the steps, what is taken, what is kept and what is written.
-use Prim.Native.Nat.{ℕ, _-_}
+use Prim.Native.Nat.{ℕ, _-_, _≤_}
 use mathlib.Core.Path.{_≡_}
 use mathlib.Core.Bool.{Bool, true, false}
 use mathlib.Core.List.{List, [], _∷_, _++_, map}
 use lib.ListN.{length, take, drop, replicate}
+use Rattle.fields.specs.Lists.{Each, flat}
 use Rattle.message.specs.declared.Answer.{Answer}
 use Rattle.message.specs.Check.{refused}
-use Rattle.message.specs.Samples.{armBytes, armAnswer}
+use Rattle.message.specs.Message.{WellFormed, encode}
+use Rattle.message.specs.Samples.{armMessage, armBytes, armAnswer}
 use Rattle.feed.specs.declared.Feed.{Feed}
 use Rattle.feed.specs.declared.OpenAnswer.the-variants as opening
 use Rattle.feed.specs.declared.PushAnswer.the-variants.{Read, Refused}
@@ -92,6 +94,9 @@ pub record Examples : Type 0 where
   -- a message that is refused, and one that is accepted and comes in three fragments
   pub accepts : Said (run (filled 108) (damaged ∷ take 57 armBytes ∷ take 48 (drop 57 armBytes) ∷ (drop 105 armBytes ++ (7 ∷ [])) ∷ []))
       (refused 5 106 ∷ armAnswer ∷ []) (state 108 0 0 0 false) (damaged ++ armBytes) (armBytes ++ filled 2)
+  -- two messages in one fragment after the other: what `Feeds` (sent) asks for is there
+  pub sent : Each (λ m. WellFormed m × (length (encode m) ≤ 108)) (armMessage ∷ armMessage ∷ [])
+  pub sent-taken : run (filled 108) (armBytes ∷ armBytes ∷ []) .taken ≡ flat encode (armMessage ∷ armMessage ∷ [])
   -- 21 before 20 for another length; a length under 58, of a feed that no opening gives
   pub stopped : pushOf (state 58 0 0 0 true) noBody (filled 10) ≡ pushed (Refused 21) (state 58 0 0 0 true) 0
   pub longer : pushOf (state 58 7 0 0 false) noBody (filled 59) ≡ pushed (Refused 20) (state 58 7 0 0 false) 0

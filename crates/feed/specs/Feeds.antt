@@ -45,8 +45,7 @@ Sent =
 
 -- a push of a run gave the answer a, and left this feed and this buffer. Where a's step is not above the buffer's length, a is the reader's
 -- answer to the buffer. Otherwise it is 20 with the length of a message that exceeds the buffer; its header is at the buffer's front and
--- passes checks 2 and 3. A step of 0 stops the feed, and no other does. Nothing is kept (rules
--- 12.6 to 12.9)
+-- passes checks 2 and 3. A step of 0 stops the feed, and no other does. Nothing is kept (rules 12.6 to 12.9)
 pub record Answers (f : Feed) (buf : List ℕ) (a : Answer) : Type 0 where
   pub fits : a .step ≤ length buf → readOf buf ≡ a
   pub exceeds : length buf < a .step → (headerFault buf ≡ 0) × (a ≡ refused 20 (endOf buf))

@@ -63,8 +63,7 @@ unfoldable pub fittingOf : ℕ → ℕ → ℕ → List ℕ → ℕ → PushResu
 fittingOf room k n u e =
     cond (ltb (length u) e) (pushed Nothing (keeping room (length u)) n) (pushed (Read (readOf (take e u))) (keeping room 0) (e - k))
 
--- the same u: its header is not whole, or it is refused, or its message fits the buffer, or it exceeds it (rules 12.3
--- and 12.4)
+-- the same u: its header is not whole, or it is refused, or its message fits the buffer, or it exceeds it (12.3, 12.4)
 unfoldable pub takenIn : ℕ → ℕ → ℕ → List ℕ → PushResult
 takenIn room k n u =
     cond (ltb (length u) 58) (pushed Nothing (keeping room (length u)) n)
@@ -80,8 +79,7 @@ pushOf f s buf =
 
 -- ---- the buffer
 
--- up to which of its bytes the message at the front of u goes to the buffer: to the header's end, or to its own where it fits (rules
--- 12.5 and 12.7)
+-- up to which of its bytes the message at the front of u goes to the buffer: to the header's end, or to its own where it fits (12.5, 12.7)
 unfoldable pub storedTo : ℕ → List ℕ → ℕ
 storedTo room u = cond (eqb (headerFault u) 0 && leb (endOf u) room) (endOf u) 58
 

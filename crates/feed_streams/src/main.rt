@@ -10,7 +10,6 @@ use feed::PushResult;
 use libc::STDIN_FILENO;
 use libc::STDOUT_FILENO;
 use message::Answer;
-ghost use Prim.Native.Nat.{min};
 ghost use mathlib.Core.Path.{_≡_};
 ghost use lib.ListN.{length, replicate};
 ghost use Rattle.feed.specs.Push.{pushOf, bufferOf};
@@ -89,18 +88,15 @@ fn push_whole(feed: Feed, fragment: &[u8], buffer: &mut [u8]) -> Feed {
     after_all
 }
 
-// Two bytes are never more than `lent` has; the slice needs the bound.
-fn least(a: usize, b: usize) -> usize
-    ensures { λ r. ⌜ r ≡ min a b ⌝ }
-{
-    if a <= b { a } else { b }
-}
-
 fn print_pushes(opened: Feed, pushes: &[u8], lent: &mut [u8]) {
     let mut feed = opened;
     let mut left = pushes;
     while 4 <= left.len() {
-        let room = least(fields::number::be16(left, 0) as usize, lent.len());
+        let room = fields::number::be16(left, 0) as usize;
+        // Two bytes never say more than `lent` has.
+        if lent.len() < room {
+            return;
+        }
         let rest = fields::slice::rest(left, 2);
         let after = push_whole(feed, vector_records::field(rest), &mut lent[..room]);
         feed = after;

@@ -26,11 +26,14 @@ loop-holds c = refl
 be16-requires : tie.Need-be16-requires Inv-loop μ-loop
 be16-requires c κs = search needs
 
-cast-least : tie.Need-cast-least Inv-loop μ-loop
-cast-least c = search needs
+cast-room : tie.Need-cast-room Inv-loop μ-loop
+cast-room c = search needs
 
-least-requires : tie.Need-least-requires Inv-loop μ-loop
-least-requires c κs = search needs
+same-length : tie.Need-same-length Inv-loop μ-loop
+same-length c = search needs
+
+returns : tie.Need-returns Inv-loop μ-loop
+returns c = search needs
 
 rest-requires : tie.Need-rest-requires Inv-loop μ-loop
 rest-requires c κs = search needs
@@ -42,7 +45,7 @@ slice-relend-prefix-push-whole : tie.Need-slice-relend-prefix-push-whole Inv-loo
 slice-relend-prefix-push-whole c = search needs
 
 slice-aggregate-push-whole : tie.Need-slice-aggregate-push-whole Inv-loop μ-loop
-slice-aggregate-push-whole c = sym (length-take-le _ _ (omega (arith, c .before .before .before .least .ensures)))
+slice-aggregate-push-whole c = sym (length-take-le _ _ (c .before .before .before .if1 .left))
 
 push-whole-requires : tie.Need-push-whole-requires Inv-loop μ-loop
 push-whole-requires c κs = search needs
@@ -58,11 +61,11 @@ loop-less c =
 loop-again : tie.Need-loop-again Inv-loop μ-loop
 loop-again c = search needs
 
-same-length : tie.Need-same-length Inv-loop μ-loop
-same-length c = search needs
+same-length-2 : tie.Need-same-length-2 Inv-loop μ-loop
+same-length-2 c = search needs
 
-returns : tie.Need-returns Inv-loop μ-loop
-returns c = search needs
+returns-2 : tie.Need-returns-2 Inv-loop μ-loop
+returns-2 c = search needs
 
 pub print-pushes-spec : {M : Type 1} → statement M
 print-pushes-spec =
@@ -72,8 +75,9 @@ print-pushes-spec =
     μ-loop
     loop-holds
     be16-requires
-    cast-least
-    least-requires
+    cast-room
+    same-length
+    returns
     rest-requires
     field-requires
     slice-relend-prefix-push-whole
@@ -82,5 +86,5 @@ print-pushes-spec =
     after-field-requires
     loop-less
     loop-again
-    same-length
-    returns)
+    same-length-2
+    returns-2)
