@@ -9,6 +9,7 @@ use crate::inputs::Input;
 use reference::content::parse;
 use reference::crc::crc;
 use reference::fault::number;
+use reference::message::body::Layout;
 use reference::message::read;
 use reference::vectors::samples::Sample;
 use reference::writer::write_message;
@@ -44,8 +45,10 @@ pub struct Difference {
 pub fn compare(input: &Input) -> Result<Vec<Label>, Difference> {
     match input {
         Input::Bytes(bytes) => compare_crc(bytes),
-        Input::Front(stream) => compare_front(stream, 0).map(|(label, _)| vec![label]),
-        Input::Stream(stream) => compare_stream(stream),
+        Input::Front(layout, stream) => {
+            compare_front(*layout, stream, 0).map(|(label, _)| vec![label])
+        }
+        Input::Stream(layout, stream) => compare_stream(*layout, stream),
         Input::Content { type_text, content } => compare_content(type_text, content),
         Input::Message {
             sample,
@@ -92,24 +95,25 @@ fn compare_crc(bytes: &[u8]) -> Result<Vec<Label>, Difference> {
 }
 
 /// The answer to the stream from a place on, and the step.
-fn compare_front(stream: &[u8], at: usize) -> Result<(Label, usize), Difference> {
+fn compare_front(layout: Layout, stream: &[u8], at: usize) -> Result<(Label, usize), Difference> {
     let stream = &stream[at..];
-    let reading = read(stream);
+    let reading = read(layout, stream);
     let answer = number(&reading.message);
     let brief = (answer, reading.step);
     let of_read = format_args!("number and step at {at}");
-    same(of_read, crate::read(stream), brief)?;
+    same(of_read, crate::read(layout, stream), brief)?;
     let of_fields = format_args!("the thirteen numbers at {at}");
-    same(of_fields, crate::read_fields(stream), reading.numbers())?;
+    let fields = crate::read_fields(layout, stream);
+    same(of_fields, fields, reading.numbers())?;
     Ok((Label::Number(answer), reading.step))
 }
 
 /// The answers up to the first step of 0.
-fn compare_stream(stream: &[u8]) -> Result<Vec<Label>, Difference> {
+fn compare_stream(layout: Layout, stream: &[u8]) -> Result<Vec<Label>, Difference> {
     let mut labels = Vec::new();
     let mut at = 0;
     loop {
-        let (label, step) = compare_front(stream, at)?;
+        let (label, step) = compare_front(layout, stream, at)?;
         labels.push(label);
         if step == 0 {
             return Ok(labels);
@@ -125,14 +129,14 @@ fn compare_content(type_text: &[u8], content: &[u8]) -> Result<Vec<Label>, Diffe
     Ok(vec![Label::Number(answer)])
 }
 
-/// The answer, and the whole buffer after it.
+/// The answer in the sample's layout, and the whole buffer after it.
 fn compare_written(sample: &Sample, room: usize, first: u8) -> Result<Vec<Label>, Difference> {
-    let message = sample.message();
+    let (layout, message) = (sample.layout, sample.message());
     let mut buffer: Vec<u8> = (0..=255).cycle().skip(first.into()).take(room).collect();
     let mut proved_buffer = buffer.clone();
-    let written = write_message(&message, &mut buffer);
+    let written = write_message(layout, &message, &mut buffer);
     let answer = (number(&written), written.unwrap_or(0));
-    let proved = crate::write(&message, &mut proved_buffer);
+    let proved = crate::write(layout, &message, &mut proved_buffer);
     same("number and count", proved, answer)?;
     same_buffer(&proved_buffer, &buffer)?;
     Ok(vec![Label::Number(answer.0)])

@@ -14,6 +14,7 @@ mod stock;
 mod writes;
 
 use reference::feed::Pushes;
+use reference::message::body::Layout;
 use reference::random::Random;
 use reference::vectors::samples::Sample;
 use reference::vectors::scripts::Script;
@@ -23,16 +24,17 @@ use stock::Stock;
 pub enum Input {
     /// To the CRC.
     Bytes(Vec<u8>),
-    /// To the reader, which answers for the front.
-    Front(Vec<u8>),
+    /// To the reader, which answers for the front in a layout.
+    Front(Layout, Vec<u8>),
     /// To the reader, message after message.
-    Stream(Vec<u8>),
+    Stream(Layout, Vec<u8>),
     /// To the judge of contents.
     Content {
         type_text: Vec<u8>,
         content: Vec<u8>,
     },
-    /// To the writer, with a buffer of so many bytes, which count up from the first one.
+    /// To the writer in the sample's layout, with a buffer of so many bytes, which count up from
+    /// the first one.
     Message {
         sample: Sample,
         room: usize,
@@ -52,7 +54,7 @@ impl Input {
     /// Without room for more bytes, so that a tool that watches memory sees a read past the end.
     fn exact(mut self) -> Self {
         match &mut self {
-            Input::Bytes(bytes) | Input::Front(bytes) | Input::Stream(bytes) => {
+            Input::Bytes(bytes) | Input::Front(_, bytes) | Input::Stream(_, bytes) => {
                 bytes.shrink_to_fit();
             }
             Input::Content { type_text, content } => {
@@ -156,6 +158,16 @@ fn kind_of(number: u64) -> &'static Kind {
     let turn = (number % 100 * 61 % 100) as usize;
     let mut kinds = (0..KINDS.len()).filter(|&kind| turn < shares(kind + 1));
     &KINDS[kinds.next().expect("the shares sum to a hundred")]
+}
+
+fn any_layout(random: &mut Random) -> Layout {
+    random.pick(&Layout::BOTH)
+}
+
+/// This layout, and now and then the other.
+fn mostly(random: &mut Random, layout: Layout) -> Layout {
+    let other = any_layout(random);
+    random.pick(&[layout, layout, layout, other])
 }
 
 /// Mostly short ones.

@@ -9,11 +9,13 @@ pub mod compare;
 pub mod inputs;
 pub mod tally;
 
+use reference::message::body::Layout;
 use reference::message::Message;
 
 mod archive {
     // SAFETY: these are the signatures of `crates/exports/src/lib.rt`, where a slice is a pointer
-    // and a length, and a lent number a pointer.
+    // and a length, and a lent number a pointer. A layout is a byte: 1 is the old one, and any
+    // other the new one.
     unsafe extern "C" {
         pub fn kudireppa_crc64(bytes: *const u8, len: usize) -> u64;
         pub fn kudireppa_content_number(
@@ -22,10 +24,17 @@ mod archive {
             content: *const u8,
             content_len: usize,
         ) -> u8;
-        pub fn kudireppa_read(stream: *const u8, len: usize, number: *mut u8) -> usize;
-        pub fn kudireppa_read_fields(stream: *const u8, len: usize, out: *mut u8, out_len: usize);
+        pub fn kudireppa_read(layout: u8, stream: *const u8, len: usize, number: *mut u8) -> usize;
+        pub fn kudireppa_read_fields(
+            layout: u8,
+            stream: *const u8,
+            len: usize,
+            out: *mut u8,
+            out_len: usize,
+        );
         #[allow(clippy::too_many_arguments)]
         pub fn kudireppa_write(
+            layout: u8,
             version: u16,
             time_stamp: u64,
             id: u32,
@@ -59,6 +68,7 @@ mod archive {
             out_len: usize,
         );
         pub fn kudireppa_feed(
+            layout: u8,
             lengths: *const u8,
             lengths_len: usize,
             stream: *const u8,
@@ -93,10 +103,12 @@ pub fn content_number(type_text: &[u8], content: &[u8]) -> u8 {
 const UNWRITTEN: u8 = 0xFF;
 
 /// The number and the step of the front of a stream.
-pub fn read(stream: &[u8]) -> (u8, usize) {
+pub fn read(layout: Layout, stream: &[u8]) -> (u8, usize) {
     let mut number = UNWRITTEN;
     // SAFETY: one slice, read; the number, written.
-    let step = unsafe { archive::kudireppa_read(stream.as_ptr(), stream.len(), &mut number) };
+    let step = unsafe {
+        archive::kudireppa_read(layout.number(), stream.as_ptr(), stream.len(), &mut number)
+    };
     (number, step)
 }
 
@@ -105,17 +117,23 @@ pub fn read(stream: &[u8]) -> (u8, usize) {
 pub const FIELDS: usize = 13;
 
 /// All numbers of the answer to the front of a stream.
-pub fn read_fields(stream: &[u8]) -> [u64; FIELDS] {
+pub fn read_fields(layout: Layout, stream: &[u8]) -> [u64; FIELDS] {
     let mut out = [UNWRITTEN; 8 * FIELDS];
     // SAFETY: one slice, read; the array, written within its length.
     unsafe {
-        archive::kudireppa_read_fields(stream.as_ptr(), stream.len(), out.as_mut_ptr(), out.len());
+        archive::kudireppa_read_fields(
+            layout.number(),
+            stream.as_ptr(),
+            stream.len(),
+            out.as_mut_ptr(),
+            out.len(),
+        );
     }
     std::array::from_fn(|place| number_at(&out, 8 * place))
 }
 
 /// The number of the answer, and how many bytes were written to the front of the buffer.
-pub fn write(message: &Message, out: &mut [u8]) -> (u8, usize) {
+pub fn write(layout: Layout, message: &Message, out: &mut [u8]) -> (u8, usize) {
     let Message {
         type_text,
         device_name,
@@ -127,6 +145,7 @@ pub fn write(message: &Message, out: &mut [u8]) -> (u8, usize) {
     // written is lent exclusively, so that none of them overlap.
     let count = unsafe {
         archive::kudireppa_write(
+            layout.number(),
             message.version,
             message.time_stamp,
             body.id,
@@ -220,13 +239,14 @@ const PUSHED_LENGTH: usize = 8 * FIELDS + 24;
 /// Opens a feed over the buffer and pushes the stream to it. Each push is offered as many bytes as
 /// the next of the lengths says, from the first one that was not taken yet. What the last push
 /// gives, and how many bytes all of them took.
-pub fn feed(lengths: &[u32], stream: &[u8], buffer: &mut [u8]) -> (Pushed, usize) {
+pub fn feed(layout: Layout, lengths: &[u32], stream: &[u8], buffer: &mut [u8]) -> (Pushed, usize) {
     let lengths: Vec<u8> = lengths.iter().flat_map(|n| n.to_be_bytes()).collect();
     let mut out = [UNWRITTEN; PUSHED_LENGTH];
     // SAFETY: two slices, read; a third one and the array, written within their lengths. What is
     // written is lent exclusively, so that none of them overlap.
     let total = unsafe {
         archive::kudireppa_feed(
+            layout.number(),
             lengths.as_ptr(),
             lengths.len(),
             stream.as_ptr(),

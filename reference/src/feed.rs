@@ -2,6 +2,7 @@
 //! and each answer is worked out from the joined stream and the places where it was cut.
 
 use crate::fault::Fault;
+use crate::message::body::Layout;
 use crate::message::header::{Header, LENGTH};
 use crate::message::read;
 
@@ -9,6 +10,8 @@ use crate::message::read;
 /// pushed again from its first byte that was not taken, until the push is refused.
 #[derive(Clone, Debug)]
 pub struct Pushes {
+    /// The layout named at the opening.
+    pub layout: Layout,
     /// The length of the buffer at the opening.
     pub room: usize,
     /// The value that all bytes of the buffer have at the opening.
@@ -68,12 +71,13 @@ struct Span {
 
 impl Pushes {
     /// All fragments with the length of the opening.
-    pub fn new(room: usize, fill: u8, fragments: &[&[u8]]) -> Self {
+    pub fn new(layout: Layout, room: usize, fill: u8, fragments: &[&[u8]]) -> Self {
         let fragments = fragments.iter().map(|bytes| Fragment {
             room,
             bytes: bytes.to_vec(),
         });
         Pushes {
+            layout,
             room,
             fill,
             fragments: fragments.collect(),
@@ -89,9 +93,35 @@ impl Pushes {
         let stream = fragments.collect::<Vec<_>>().concat();
         Ok(Joined {
             given: self,
-            messages: messages(&stream, self.room),
+            messages: self.messages(&stream),
             stream,
         })
+    }
+
+    fn messages(&self, stream: &[u8]) -> Vec<Span> {
+        let first = self.message(stream, 0);
+        let messages = std::iter::successors(Some(first), |last| {
+            let more = !last.stops() && last.end <= stream.len();
+            more.then(|| self.message(stream, last.end))
+        });
+        messages.collect()
+    }
+
+    /// The message at a place.
+    fn message(&self, stream: &[u8], start: usize) -> Span {
+        let rest = &stream[start..];
+        let length = Header::parse(rest).map_or(LENGTH, |header| length(&header));
+        let fits = length <= self.room;
+        Span {
+            start,
+            end: start + length,
+            answer: if fits {
+                read(self.layout, rest).numbers()
+            } else {
+                exceeding(length)
+            },
+            stored: if fits { length } else { LENGTH },
+        }
     }
 
     /// What a fragment adds to the joined stream: nothing where another length is lent with it.
@@ -104,33 +134,7 @@ impl Pushes {
     }
 }
 
-fn messages(stream: &[u8], room: usize) -> Vec<Span> {
-    let first = Span::at(stream, 0, room);
-    let messages = std::iter::successors(Some(first), |last| {
-        let more = !last.stops() && last.end <= stream.len();
-        more.then(|| Span::at(stream, last.end, room))
-    });
-    messages.collect()
-}
-
 impl Span {
-    /// The message at a place, for a buffer of so many bytes.
-    fn at(stream: &[u8], start: usize, room: usize) -> Self {
-        let rest = &stream[start..];
-        let length = Header::parse(rest).map_or(LENGTH, |header| length(&header));
-        let fits = length <= room;
-        Span {
-            start,
-            end: start + length,
-            answer: if fits {
-                read(rest).numbers()
-            } else {
-                exceeding(length)
-            },
-            stored: if fits { length } else { LENGTH },
-        }
-    }
-
     fn stops(&self) -> bool {
         matches!(self.answer[0], 2 | 3)
     }
@@ -243,7 +247,7 @@ impl Joined<'_> {
 
 #[cfg(test)]
 mod tests {
-    use super::{Answer, Fragment, Push, Pushes};
+    use super::{Answer, Fragment, Layout, Push, Pushes};
     use crate::fault::{number, Fault};
     use crate::message::read;
     use crate::random::Random;
@@ -259,19 +263,27 @@ mod tests {
         answers.collect()
     }
 
-    fn in_one_piece(room: usize, stream: &[u8]) -> Vec<Push> {
-        Pushes::new(room, 0, &[stream]).join().unwrap().pushes()
+    fn in_one_piece(layout: Layout, room: usize, stream: &[u8]) -> Vec<Push> {
+        let pushes = Pushes::new(layout, room, 0, &[stream]);
+        pushes.join().unwrap().pushes()
     }
 
-    /// Each kind of refused message between two sound ones, and the shorter capture.
+    /// Each kind of refused message between two sound ones, in each layout, and the shorter
+    /// capture.
     fn streams() -> Vec<Vec<u8>> {
-        let mut streams = streams::between_sound_ones();
-        streams.push(streams::CAPTURES[1].to_vec());
-        streams
+        let [new, old] = Layout::BOTH.map(streams::between_sound_ones);
+        [new, old, vec![streams::CAPTURES[1].to_vec()]].concat()
+    }
+
+    /// The streams, each with both layouts.
+    fn in_both() -> Vec<(Layout, Vec<u8>)> {
+        let streams = streams().into_iter();
+        let pairs = streams.flat_map(|stream| Layout::BOTH.map(|layout| (layout, stream.clone())));
+        pairs.collect()
     }
 
     /// The stream in fragments of up to 99 bytes.
-    fn cut(random: &mut Random, room: usize, stream: &[u8]) -> Pushes {
+    fn cut(random: &mut Random, layout: Layout, room: usize, stream: &[u8]) -> Pushes {
         let mut fragments = Vec::new();
         let mut rest = stream;
         while !rest.is_empty() {
@@ -281,13 +293,13 @@ mod tests {
             fragments.push(fragment);
             rest = after;
         }
-        Pushes::new(room, 0xEE, &fragments)
+        Pushes::new(layout, room, 0xEE, &fragments)
     }
 
     #[test]
     fn a_buffer_of_58_bytes_is_enough() {
         for (room, expected) in [(0, 20), (57, 20), (58, 0)] {
-            let pushes = Pushes::new(room, 0, &[]);
+            let pushes = Pushes::new(Layout::New, room, 0, &[]);
             assert_eq!(number(&pushes.join()), expected);
         }
     }
@@ -295,27 +307,27 @@ mod tests {
     #[test]
     fn a_wide_buffer_gives_the_answers_of_the_listing() {
         let expected = [[0, 58], [5, 59]];
-        let listed = in_one_piece(59, &listing_input());
+        let listed = in_one_piece(Layout::New, 59, &listing_input());
         assert_eq!(answers(&listed), expected);
-        for stream in streams() {
+        for (layout, stream) in in_both() {
             let mut rest = &stream[..];
-            for [number, step] in answers(&in_one_piece(4096, &stream)) {
-                let numbers = read(rest).numbers();
+            for [number, step] in answers(&in_one_piece(layout, 4096, &stream)) {
+                let numbers = read(layout, rest).numbers();
                 assert_eq!(numbers[..2], [number, step]);
                 rest = &rest[usize::try_from(step).unwrap()..];
             }
-            assert!(rest.is_empty() || matches!(read(rest).numbers()[0], 2 | 3));
+            assert!(rest.is_empty() || matches!(read(layout, rest).numbers()[0], 2 | 3));
         }
     }
 
     #[test]
     fn the_answers_are_the_same_however_the_stream_is_cut() {
         let mut random = Random::new(1);
-        for stream in streams() {
+        for (layout, stream) in in_both() {
             for room in [58, 86, 106, 4096] {
-                let pushes = cut(&mut random, room, &stream);
+                let pushes = cut(&mut random, layout, room, &stream);
                 let pushes = pushes.join().unwrap().pushes();
-                let expected = in_one_piece(room, &stream);
+                let expected = in_one_piece(layout, room, &stream);
                 assert_eq!(answers(&pushes), answers(&expected));
                 let taken = |pushes: &[Push]| pushes.iter().map(|push| push.taken).sum::<usize>();
                 assert_eq!(taken(&pushes), taken(&expected));
@@ -326,8 +338,8 @@ mod tests {
     #[test]
     fn what_is_kept_and_what_was_read_stand_at_the_front_of_the_buffer() {
         let mut random = Random::new(2);
-        for stream in streams() {
-            let pushes = cut(&mut random, 110, &stream);
+        for (layout, stream) in in_both() {
+            let pushes = cut(&mut random, layout, 110, &stream);
             let joined = pushes.join().unwrap();
             for push in joined.pushes() {
                 let buffer = joined.buffer(push.in_all);
@@ -335,10 +347,28 @@ mod tests {
                 assert!(taken.ends_with(&buffer[..push.kept]));
                 match push.answer {
                     Answer::Read(numbers) if numbers[0] != 20 => {
-                        assert_eq!(read(&buffer).numbers(), numbers);
+                        assert_eq!(read(layout, &buffer).numbers(), numbers);
                     }
                     _ => (),
                 }
+            }
+        }
+    }
+
+    /// The cut is in front of MSG_ID and inside it.
+    #[test]
+    fn a_message_is_read_in_the_layout_of_the_opening() {
+        for written in Layout::BOTH {
+            let stream = Sample::extended(written).bytes();
+            let fragments = [&stream[..66], &stream[66..67], &stream[67..]];
+            let expected = match written {
+                Layout::New => [0, 6],
+                Layout::Old => [6, 0],
+            };
+            for (layout, expected) in Layout::BOTH.into_iter().zip(expected) {
+                let pushes = Pushes::new(layout, 110, 0, &fragments);
+                let answers = answers(&pushes.join().unwrap().pushes());
+                assert_eq!(answers, [[expected, 110]]);
             }
         }
     }
@@ -348,7 +378,7 @@ mod tests {
         let stream = Sample::plain(b"TRANSFORM", &[7; 48]).bytes();
         let header = [&stream[..58], &[0; 47]].concat();
         let fragments = [&stream[..58], &stream[58..105], &stream[105..]];
-        let pushes = Pushes::new(105, 0, &fragments);
+        let pushes = Pushes::new(Layout::New, 105, 0, &fragments);
         let joined = pushes.join().unwrap();
         let given = joined.pushes();
         let brief: Vec<_> = given.iter().map(|push| (push.taken, push.kept)).collect();
@@ -362,7 +392,8 @@ mod tests {
     #[test]
     fn a_fragment_with_another_length_is_no_part_of_the_stream() {
         let stream = listing_input();
-        let mut pushes = Pushes::new(58, 0, &[&stream[..20], &stream[20..58]]);
+        let fragments = [&stream[..20], &stream[20..58]];
+        let mut pushes = Pushes::new(Layout::New, 58, 0, &fragments);
         let bytes = b"any bytes".to_vec();
         pushes.fragments.insert(1, Fragment { room: 59, bytes });
         let given = pushes.join().unwrap().pushes();
@@ -373,10 +404,10 @@ mod tests {
 
     #[test]
     fn nothing_is_taken_after_a_stop() {
-        let [_, wrong, ..] = &streams::refused()[..] else {
+        let [_, wrong, ..] = &streams::refused(Layout::New)[..] else {
             panic!("a message for 3");
         };
-        let mut pushes = Pushes::new(60, 0, &[&wrong[..60], &[], wrong]);
+        let mut pushes = Pushes::new(Layout::New, 60, 0, &[&wrong[..60], &[], wrong]);
         pushes.fragments[1].room = 3;
         let given = pushes.join().unwrap().pushes();
         let brief = given

@@ -1,6 +1,8 @@
 //! The listing (rule 8.3): what is answered at each place of a stream, up to the first step of 0.
+//! The program reads messages of the new layout.
 
 use crate::fault::number;
+use crate::message::body::Layout;
 use crate::message::read;
 
 /// As many bytes as the program reads.
@@ -14,16 +16,16 @@ pub struct Line {
     pub step: usize,
 }
 
-pub fn lines(stream: &[u8]) -> Vec<Line> {
-    let first = line(stream, 0);
+pub fn lines(layout: Layout, stream: &[u8]) -> Vec<Line> {
+    let first = line(layout, stream, 0);
     let lines = std::iter::successors(Some(first), |last| {
-        (last.step > 0).then(|| line(stream, last.at + last.step))
+        (last.step > 0).then(|| line(layout, stream, last.at + last.step))
     });
     lines.collect()
 }
 
-fn line(stream: &[u8], at: usize) -> Line {
-    let reading = read(&stream[at..]);
+fn line(layout: Layout, stream: &[u8], at: usize) -> Line {
+    let reading = read(layout, &stream[at..]);
     Line {
         at,
         answer: number(&reading.message),
@@ -33,14 +35,14 @@ fn line(stream: &[u8], at: usize) -> Line {
 
 /// What the program prints.
 pub fn table(input: &[u8]) -> String {
-    let lines = lines(&input[..input.len().min(LONGEST)]).into_iter();
+    let lines = lines(Layout::New, &input[..input.len().min(LONGEST)]).into_iter();
     let lines = lines.map(|Line { at, answer, step }| format!("{at} {answer} {step}\n"));
     "at answer step\n".to_string() + &lines.collect::<String>()
 }
 
 #[cfg(test)]
 mod tests {
-    use super::{lines, table, Line};
+    use super::{lines, table, Layout, Line};
 
     #[test]
     fn a_stream_of_no_bytes() {
@@ -54,7 +56,9 @@ mod tests {
             answer: 1,
             step: 0,
         };
-        assert_eq!(lines(&[0; 60])[1..], [last]);
+        for layout in Layout::BOTH {
+            assert_eq!(lines(layout, &[0; 60])[1..], [last]);
+        }
     }
 
     #[test]

@@ -7,7 +7,7 @@ pub mod time_stamp;
 
 use crate::crc::crc;
 use crate::fault::{number, smallest, Fault};
-use body::Body;
+use body::{Body, Layout};
 use header::Header;
 
 /// All that a message says; sizes and CRC follow from it.
@@ -28,11 +28,11 @@ pub struct Reading<'a> {
     pub message: Result<Message<'a>, Fault>,
 }
 
-pub fn read(stream: &[u8]) -> Reading<'_> {
+pub fn read(layout: Layout, stream: &[u8]) -> Reading<'_> {
     match cut(stream) {
         Ok((header, bytes)) => Reading {
             step: header::LENGTH + bytes.len(),
-            message: open(&header, bytes),
+            message: open(layout, &header, bytes),
         },
         Err(fault) => Reading {
             step: 0,
@@ -51,8 +51,8 @@ fn cut(stream: &[u8]) -> Result<(Header<'_>, &[u8]), Fault> {
 }
 
 /// The message of a header and its body. Every fault is looked for, and the smallest counts.
-fn open<'a>(header: &Header<'a>, bytes: &'a [u8]) -> Result<Message<'a>, Fault> {
-    let body = Body::split(header.version, bytes);
+fn open<'a>(layout: Layout, header: &Header<'a>, bytes: &'a [u8]) -> Result<Message<'a>, Fault> {
+    let body = Body::split(layout, header.version, bytes);
     let crc_fault = (crc(bytes) != header.crc).then_some(Fault::Crc);
     let section_fault = body.and_then(|body| body.fault(header.type_text).map_or(Ok(()), Err));
     match smallest([crc_fault, body.err(), section_fault.err()]) {
@@ -69,8 +69,8 @@ fn open<'a>(header: &Header<'a>, bytes: &'a [u8]) -> Result<Message<'a>, Fault> 
 
 impl Message<'_> {
     /// The bytes of the message. Every fault is looked for, and the smallest counts.
-    pub fn encode(&self) -> Result<Vec<u8>, Fault> {
-        let body = self.body.join(self.version);
+    pub fn encode(&self, layout: Layout) -> Result<Vec<u8>, Fault> {
+        let body = self.body.join(layout, self.version);
         let header = self.header(body.as_deref().unwrap_or_default()).encode();
         let faults = [
             header.as_ref().err().copied(),
@@ -134,8 +134,11 @@ impl Reading<'_> {
 
 #[cfg(test)]
 mod tests {
+    use super::body::Layout::{self, New, Old};
+    use super::metadata::{self, Entry};
     use super::{read, Body, Message, Reading};
-    use crate::fault::Fault;
+    use crate::fault::{number, Fault};
+    use crate::vectors::samples::mended;
 
     fn status() -> Message<'static> {
         Message {
@@ -160,9 +163,21 @@ mod tests {
         }
     }
 
+    /// In both layouts.
     fn refused(stream: &[u8]) -> Option<(Fault, usize)> {
-        let Reading { step, message } = read(stream);
-        message.err().map(|fault| (fault, step))
+        let [new, old] = Layout::BOTH.map(|layout| {
+            let Reading { step, message } = read(layout, stream);
+            message.err().map(|fault| (fault, step))
+        });
+        assert_eq!(new, old);
+        new
+    }
+
+    /// In both layouts.
+    fn answer(message: &Message) -> u8 {
+        let [new, old] = Layout::BOTH.map(|layout| number(&message.encode(layout)));
+        assert_eq!(new, old);
+        new
     }
 
     #[test]
@@ -172,52 +187,177 @@ mod tests {
 
     #[test]
     fn p5_a_body_of_12_bytes() {
-        let stream = status().encode().unwrap();
-        assert_eq!(stream[58..], [0, 12, 0, 0, 0, 0, 0, 0, 0, 0, 0, 0]);
-        let reading = read(&stream);
-        assert_eq!(reading.step, 70);
-        assert_eq!(reading.places(), [70; 3]);
-        assert_eq!(reading.message, Ok(status()));
+        for layout in Layout::BOTH {
+            let stream = status().encode(layout).unwrap();
+            assert_eq!(stream[58..], [0, 12, 0, 0, 0, 0, 0, 0, 0, 0, 0, 0]);
+            let reading = read(layout, &stream);
+            assert_eq!(reading.step, 70);
+            assert_eq!(reading.places(), [70; 3]);
+            assert_eq!(reading.message, Ok(status()));
+        }
+    }
+
+    fn plain(content: &[u8]) -> Message<'_> {
+        Message {
+            version: 1,
+            body: Body {
+                content,
+                ..Body::default()
+            },
+            ..status()
+        }
     }
 
     #[test]
     fn p6_a_body_of_11_bytes() {
-        let plain = Message {
-            version: 1,
-            body: Body {
-                content: &[0; 11],
-                ..Body::default()
-            },
-            ..status()
-        };
-        let mut stream = plain.encode().unwrap();
-        assert!(read(&stream).message.is_ok());
+        let mut stream = plain(&[0; 11]).encode(New).unwrap();
+        assert!(read(New, &stream).message.is_ok());
         stream[1] = 2;
         assert_eq!(refused(&stream), Some((Fault::Extended, 69)));
     }
 
+    /// The stream of this body, given in hexadecimal with blanks.
+    fn with_body(digits: &str) -> Vec<u8> {
+        let digits: String = digits.split(' ').collect();
+        let body = (0..digits.len()).step_by(2);
+        let body = body.map(|place| u8::from_str_radix(&digits[place..place + 2], 16).unwrap());
+        let mut stream = plain(&body.collect::<Vec<_>>()).encode(New).unwrap();
+        stream[1] = 2;
+        stream
+    }
+
+    const ENTRY: &str = "0001 0001 0003 00000001 6B76";
+
+    /// Number, step and id of a body in a layout.
+    fn answered(layout: Layout, digits: &str) -> [u64; 3] {
+        let [number, step, _, _, _, _, id, ..] = read(layout, &with_body(digits)).numbers();
+        [number, step, id]
+    }
+
+    #[test]
+    fn bodies_of_12_bytes_in_both_layouts() {
+        let cases = [
+            ("000C 0000 00000000 00000007", [0, 70, 7], [6, 70, 0]),
+            ("000C 0000 00000007 00000000", [6, 70, 0], [0, 70, 7]),
+            ("000C 0000 00000000 00000000", [0, 70, 0], [0, 70, 0]),
+            ("000C 0000 FFFFFFFF 00000009", [6, 70, 0], [6, 70, 0]),
+            (
+                "000C 0000 FFFFFFFF 00000000",
+                [6, 70, 0],
+                [0, 70, 4_294_967_295],
+            ),
+        ];
+        for (digits, new, old) in cases {
+            assert_eq!(answered(New, digits), new, "{digits}");
+            assert_eq!(answered(Old, digits), old, "{digits}");
+        }
+    }
+
+    #[test]
+    fn crcs_of_the_first_three_bodies() {
+        let crcs: [(&str, u64); 3] = [
+            ("000C 0000 00000000 00000007", 0x26B2_DAF6_2FC5_2FD6),
+            ("000C 0000 00000007 00000000", 0xAF57_64DE_BD3F_227F),
+            ("000C 0000 00000000 00000000", 0xA890_9E8F_DBB9_98BC),
+        ];
+        for (digits, crc) in crcs {
+            assert_eq!(with_body(digits)[50..58], crc.to_be_bytes());
+        }
+    }
+
+    #[test]
+    fn one_entry_in_the_new_layout() {
+        let stream = with_body(&format!("000C 000A 00000002 00000009 {ENTRY}"));
+        assert_eq!(stream[50..58], 0xB6BC_232B_61CA_0612_u64.to_be_bytes());
+        let reading = read(New, &stream);
+        assert_eq!((reading.step, reading.places()), (82, [70; 3]));
+        let body = reading.message.unwrap().body;
+        assert_eq!((body.id, body.metadata.len()), (9, 12));
+        let found = metadata::find(body.metadata, b"k").unwrap();
+        assert_eq!(found.entry.value, b"v");
+        assert_eq!(read(Old, &stream).message, Err(Fault::Extended));
+    }
+
+    #[test]
+    fn sizes_that_disagree_with_the_section() {
+        let cases = [
+            ("0008 00000004", 7),
+            ("0000 0000000C", 7),
+            ("000C 00000000", 7),
+            ("000A 00000003", 6),
+        ];
+        for (sizes, number) in cases {
+            let digits = format!("000C {sizes} 00000009 {ENTRY}");
+            assert_eq!(answered(New, &digits), [number, 82, 0], "{digits}");
+            assert_eq!(answered(Old, &digits), [6, 82, 0], "{digits}");
+        }
+    }
+
+    #[test]
+    fn sections_of_two_bytes_and_of_one() {
+        let cases = [
+            ("000C 0002 00000000 00000009 0000", [0, 72, 9]),
+            ("000C 0002 00000000 00000009 0001", [7, 72, 0]),
+            ("000C 0000 00000002 00000009 0000", [7, 72, 0]),
+            ("000C 0001 00000001 00000009 0000", [7, 72, 0]),
+            ("000C 0001 00000000 00000009 00", [7, 71, 0]),
+            ("000C 0000 00000001 00000009 00", [7, 71, 0]),
+        ];
+        for (digits, new) in cases {
+            assert_eq!(answered(New, digits), new, "{digits}");
+            let old = [6, new[1], 0];
+            assert_eq!(answered(Old, digits), old, "{digits}");
+        }
+    }
+
+    /// No METADATA_HEADER_SIZE can agree with them.
+    #[test]
+    fn more_than_8191_entries_are_read_as_a_disagreement() {
+        let digits = format!("000C FFFF 00000001 00000009 2000 {}", "00".repeat(65_534));
+        assert_eq!(answered(New, &digits), [7, 58 + 12 + 65_536, 0]);
+    }
+
     #[test]
     fn a_message_is_read_as_it_is_written() {
-        let mut stream = position().encode().unwrap();
-        let length = stream.len();
-        stream.extend(b"the next message");
-        let reading = read(&stream);
-        assert_eq!(reading.step, length);
-        assert_eq!(reading.places(), [70, 77, 89]);
-        assert_eq!(reading.message, Ok(position()));
+        for layout in Layout::BOTH {
+            let mut stream = position().encode(layout).unwrap();
+            let length = stream.len();
+            stream.extend(b"the next message");
+            let reading = read(layout, &stream);
+            assert_eq!(reading.step, length);
+            assert_eq!(reading.places(), [70, 77, 89]);
+            assert_eq!(reading.message, Ok(position()));
+        }
+    }
+
+    #[test]
+    fn the_layouts_differ_by_the_id_and_by_keys_and_values() {
+        let entry = b"\0\x01\0\x01\0\x03\0\0\0\0k";
+        let same = |message: Message| message.encode(New) == message.encode(Old);
+        let mut message = position();
+        assert!(!same(message));
+        message.body.id = 0;
+        assert!(same(message));
+        message.body.metadata = entry;
+        assert!(!same(message));
+        message.body.metadata = &[];
+        assert!(same(message));
     }
 
     #[test]
     fn a_section_of_no_entries_is_another_message() {
         let mut without = position();
         without.body.metadata = &[];
-        assert_ne!(without.encode(), position().encode());
-        assert_eq!(read(&without.encode().unwrap()).message, Ok(without));
+        for layout in Layout::BOTH {
+            let bytes = without.encode(layout);
+            assert_ne!(bytes, position().encode(layout));
+            assert_eq!(read(layout, &bytes.unwrap()).message, Ok(without));
+        }
     }
 
     #[test]
     fn the_version_comes_after_the_body_and_before_the_crc() {
-        let mut stream = position().encode().unwrap();
+        let mut stream = position().encode(Old).unwrap();
         let length = stream.len();
         stream[1] = 3;
         stream[57] ^= 1;
@@ -225,6 +365,26 @@ mod tests {
         assert_eq!(refused(&stream[..length - 1]), Some((Fault::Short, 0)));
         stream[1] = 2;
         assert_eq!(refused(&stream), Some((Fault::Crc, length)));
+    }
+
+    /// The section's size fields are wrong, then also those of the body, then the CRC.
+    #[test]
+    fn the_crc_comes_before_the_sizes_and_all_sizes_before_those_of_the_metadata() {
+        let mut stream = position().encode(New).unwrap();
+        let length = stream.len();
+        stream[61] = 0;
+        let mut refused = |place: usize, value, mend: bool| {
+            stream[place] = value;
+            if mend {
+                stream = mended(stream.clone());
+            }
+            let reading = read(New, &stream);
+            assert_eq!(reading.step, length);
+            reading.message.unwrap_err()
+        };
+        assert_eq!(refused(65, 2, true), Fault::Metadata);
+        assert_eq!(refused(62, 1, true), Fault::Extended);
+        assert_eq!(refused(69, 9, false), Fault::Crc);
     }
 
     #[test]
@@ -238,16 +398,16 @@ mod tests {
             },
             ..position()
         };
-        assert_eq!(bad.encode(), Err(Fault::Text));
+        assert_eq!(answer(&bad), 2);
         let type_text = b"TRANSFORM";
         let bad = Message { type_text, ..bad };
-        assert_eq!(bad.encode(), Err(Fault::Version));
+        assert_eq!(answer(&bad), 4);
         let plain = Message { version: 1, ..bad };
-        assert_eq!(plain.encode(), Err(Fault::Extended));
+        assert_eq!(answer(&plain), 6);
         let mut extended = Message { version: 2, ..bad };
-        assert_eq!(extended.encode(), Err(Fault::Metadata));
+        assert_eq!(answer(&extended), 7);
         extended.body.metadata = &[];
-        assert_eq!(extended.encode(), Err(Fault::Length));
+        assert_eq!(answer(&extended), 8);
     }
 
     #[test]
@@ -261,13 +421,75 @@ mod tests {
             },
             ..status()
         };
-        assert!(content(16_777_216, 1).encode().is_ok());
-        assert_eq!(content(16_777_217, 7).encode(), Err(Fault::Limit));
-        assert_eq!(content(16_777_205, 2).encode(), Err(Fault::Limit));
+        assert!(content(16_777_216, 1).encode(New).is_ok());
+        assert_eq!(answer(&content(16_777_217, 7)), 3);
+        assert_eq!(answer(&content(16_777_205, 2)), 3);
         let mut metadata = content(0, 1);
         metadata.body.metadata = &bytes;
-        assert_eq!(metadata.encode(), Err(Fault::Extended));
+        assert_eq!(answer(&metadata), 6);
         metadata.version = 2;
-        assert_eq!(metadata.encode(), Err(Fault::Limit));
+        assert_eq!(answer(&metadata), 3);
+    }
+
+    fn with_section(version: u16, metadata: &[u8]) -> Message<'_> {
+        Message {
+            version,
+            body: Body {
+                metadata,
+                ..Body::default()
+            },
+            ..status()
+        }
+    }
+
+    fn answers(version: u16, section: &[u8]) -> [u8; 2] {
+        let message = with_section(version, section);
+        Layout::BOTH.map(|layout| number(&message.encode(layout)))
+    }
+
+    #[test]
+    fn sections_that_cannot_be_written() {
+        assert_eq!(answers(2, b"\x20\0"), [6, 7]);
+        assert_eq!(answers(2, b"\x1F\xFF"), [7, 7]);
+        assert_eq!(answers(2, b"\xFF"), [7, 7]);
+        assert_eq!(answers(1, b"\0\0"), [6, 6]);
+        assert_eq!(answers(1, b"\x20\0"), [6, 6]);
+    }
+
+    /// The message of a section is read in the new layout as it is written, with these two sizes.
+    fn assert_written(section: &[u8], index_size: u16, data_size: u32) {
+        let message = with_section(2, section);
+        let stream = message.encode(New).unwrap();
+        let sizes = [&index_size.to_be_bytes()[..], &data_size.to_be_bytes()];
+        assert_eq!(stream[60..66], sizes.concat());
+        assert_eq!(read(New, &stream).message, Ok(message));
+    }
+
+    #[test]
+    fn a_section_of_70_000_bytes() {
+        let entry = Entry {
+            key: b"k",
+            encoding: 3,
+            value: &[7; 69_989],
+        };
+        let section = metadata::join(&[entry]).unwrap();
+        assert_eq!(section.len(), 70_000);
+        assert_written(&section, 0x000A, 0x0001_1166);
+        assert_eq!(answers(2, &section), [0, 6]);
+    }
+
+    #[test]
+    fn a_section_of_8_191_entries() {
+        let entry = Entry {
+            key: b"a",
+            encoding: 3,
+            value: b"",
+        };
+        let section = metadata::join(&[entry; 8_191]).unwrap();
+        assert_eq!(section.len(), 73_721);
+        assert_written(&section, 0xFFFA, 0x0000_1FFF);
+        assert_eq!(answers(2, &section), [0, 6]);
+        let more = metadata::join(&[entry; 8_192]).unwrap();
+        assert_eq!(answers(2, &more), [6, 6]);
     }
 }

@@ -4,6 +4,7 @@
 mod tile;
 
 use crate::fault::Fault;
+use crate::message::body::Layout;
 use crate::message::read;
 use tile::Tile;
 
@@ -19,6 +20,7 @@ pub enum Call {
         hold_time: u64,
     },
     LinkUp {
+        layout: Layout,
         clock: u64,
     },
     LinkDown {
@@ -87,7 +89,7 @@ impl<'a> History<'a> {
     pub fn answer(&self, call: &Call) -> Answer {
         let answer = match call {
             Call::Add { .. } => self.add(call),
-            Call::LinkUp { clock } | Call::LinkDown { clock } => self.link(*clock),
+            Call::LinkUp { clock, .. } | Call::LinkDown { clock } => self.link(*clock),
             Call::Message { clock, bytes } => self.message(*clock, bytes),
             Call::Look { tile, clock } => self.look(*tile, *clock),
         };
@@ -113,10 +115,8 @@ impl<'a> History<'a> {
 
     fn message(&self, clock: u64, bytes: &[u8]) -> Result<Answer, Fault> {
         self.not_earlier(clock)?;
-        if !self.is_linked() {
-            return Err(Fault::LinkDown);
-        }
-        let reading = read(bytes);
+        let layout = self.layout_at(self.events.len()).ok_or(Fault::LinkDown)?;
+        let reading = read(layout, bytes);
         let message = reading.message?;
         if reading.step < bytes.len() {
             Err(Fault::LeftOver)
@@ -152,10 +152,15 @@ impl<'a> History<'a> {
         events.filter_map(|(place, event)| Some((place, Tile::of(event.call)?)))
     }
 
-    /// The link is as the last accepted link call says, and down before the first.
-    fn is_linked(&self) -> bool {
-        let last = self.events.iter().rev().find(|event| event.is_link());
-        last.is_some_and(|event| matches!(event.call, Call::LinkUp { .. }))
+    /// The layout that the last accepted link call before a place names, or nothing where the link
+    /// is down: the call is no link up, or there is none.
+    fn layout_at(&self, place: usize) -> Option<Layout> {
+        let before = self.events[..place].iter();
+        let last = before.rev().find(|event| event.is_link())?;
+        match last.call {
+            Call::LinkUp { layout, .. } => Some(*layout),
+            _ => None,
+        }
     }
 
     /// The clock of the last link or message call accepted, and 0 before the first.
@@ -180,7 +185,7 @@ impl<'a> History<'a> {
             let Call::Message { bytes, .. } = event.call else {
                 return None;
             };
-            let message = read(bytes).message.ok()?;
+            let message = read(self.layout_at(place)?, bytes).message.ok()?;
             let value = message.body.content;
             tile.is_of(&message).then_some(Counted {
                 place,
@@ -202,7 +207,7 @@ impl Event<'_> {
     /// The clock of an accepted link or message call.
     fn clock(&self) -> Option<u64> {
         match self.call {
-            Call::LinkUp { clock } | Call::LinkDown { clock } | Call::Message { clock, .. } => {
+            Call::LinkUp { clock, .. } | Call::LinkDown { clock } | Call::Message { clock, .. } => {
                 (self.answer == Answer::Accepted).then_some(*clock)
             }
             Call::Add { .. } | Call::Look { .. } => None,
@@ -212,7 +217,7 @@ impl Event<'_> {
 
 #[cfg(test)]
 mod tests {
-    use super::{Answer, Call, History};
+    use super::{Answer, Call, History, Layout};
     use crate::fault::Fault;
     use crate::message::body::Body;
     use crate::message::Message;
@@ -225,18 +230,36 @@ mod tests {
         }
     }
 
-    fn message(clock: u64, device_name: &[u8], value: u8) -> Call {
-        let message = Message {
+    fn up(layout: Layout, clock: u64) -> Call {
+        Call::LinkUp { layout, clock }
+    }
+
+    fn transform<'a>(device_name: &'a [u8], content: &'a [u8]) -> Message<'a> {
+        Message {
             version: 1,
             type_text: b"TRANSFORM",
             device_name,
             body: Body {
-                content: &[value; 48],
+                content,
                 ..Body::default()
             },
             ..Message::default()
-        };
-        let bytes = message.encode().unwrap();
+        }
+    }
+
+    fn message(clock: u64, device_name: &[u8], value: u8) -> Call {
+        let content = [value; 48];
+        let bytes = transform(device_name, &content).encode(Layout::New);
+        let bytes = bytes.unwrap();
+        Call::Message { clock, bytes }
+    }
+
+    /// One of V 2 for the Arm, with this MSG_ID.
+    fn extended(layout: Layout, clock: u64, id: u32, value: u8) -> Call {
+        let content = [value; 48];
+        let mut message = transform(b"Arm", &content);
+        (message.version, message.body.id) = (2, id);
+        let bytes = message.encode(layout).unwrap();
         Call::Message { clock, bytes }
     }
 
@@ -247,7 +270,7 @@ mod tests {
     /// What is answered of these calls after the first three of P10.
     fn after_p10(calls: &[Call]) -> Vec<Answer> {
         let tile = add(b"TRANSFORM", b"Arm");
-        let first = [tile, Call::LinkUp { clock: 1000 }, message(1200, b"Arm", 7)];
+        let first = [tile, up(Layout::New, 1000), message(1200, b"Arm", 7)];
         let calls = [&first, calls].concat();
         let history = History::of(&calls);
         let answers: Vec<_> = history.answers().cloned().collect();
@@ -268,7 +291,7 @@ mod tests {
 
     #[test]
     fn p10_to_p12() {
-        let link = Call::LinkUp { clock: 1400 };
+        let link = up(Layout::New, 1400);
         let calls = [look(1700), look(1701), look(1199), link, look(1400)];
         let expected = [
             green(500, 7),
@@ -304,7 +327,7 @@ mod tests {
         let links = [
             Call::LinkDown { clock: 1200 },
             message(1200, b"Arm", 8),
-            Call::LinkUp { clock: 1200 },
+            up(Layout::New, 1200),
             message(1200, b"Arm", 9),
         ];
         let expected = [
@@ -315,6 +338,76 @@ mod tests {
             green(0, 9),
         ];
         assert_eq!(after_p10(&[&links[..], &[look(1200)]].concat()), expected);
+    }
+
+    /// What is answered of these calls with a tile for the Arm.
+    fn with_tile(calls: &[Call]) -> Vec<Answer> {
+        let calls = [&[add(b"TRANSFORM", b"Arm")], calls].concat();
+        let answers: Vec<_> = History::of(&calls).answers().cloned().collect();
+        answers[1..].to_vec()
+    }
+
+    const ACCEPTED: Answer = Answer::Accepted;
+
+    /// In the new layout 5 is the size of keys and values, which the content is long enough for.
+    #[test]
+    fn a_refused_link_up_names_no_layout() {
+        let [new, old] = Layout::BOTH;
+        let calls = [
+            up(old, 10),
+            extended(new, 11, 5, 8),
+            up(new, 9),
+            extended(new, 11, 5, 8),
+            extended(old, 11, 5, 7),
+            up(new, 12),
+            extended(new, 13, 5, 8),
+            look(13),
+            up(old, 12),
+            extended(new, 13, 5, 9),
+            extended(old, 13, 5, 7),
+            look(13),
+        ];
+        let faults = [Fault::Extended, Fault::Metadata, Fault::Earlier];
+        let [extended, metadata, earlier] = faults.map(Answer::Refused);
+        let before = [
+            ACCEPTED,
+            extended.clone(),
+            earlier.clone(),
+            extended.clone(),
+        ];
+        let switched = [ACCEPTED, ACCEPTED, ACCEPTED, green(0, 8)];
+        let after = [earlier, ACCEPTED, metadata, green(0, 9)];
+        assert_eq!(with_tile(&calls), [before, switched, after].concat());
+    }
+
+    #[test]
+    fn without_id_and_metadata_a_message_counts_in_both_layouts() {
+        for layout in Layout::BOTH {
+            for written in Layout::BOTH {
+                let calls = [up(layout, 5), extended(written, 6, 0, 7), look(6)];
+                assert_eq!(with_tile(&calls), [ACCEPTED, ACCEPTED, green(0, 7)]);
+            }
+        }
+    }
+
+    /// Each value is what its message says in the layout of its own link.
+    #[test]
+    fn a_value_stays_after_a_change_of_layout() {
+        for (first, second) in [(Layout::New, Layout::Old), (Layout::Old, Layout::New)] {
+            let calls = [
+                up(first, 5),
+                extended(first, 6, 9, 7),
+                up(second, 7),
+                look(8),
+                Call::LinkDown { clock: 8 },
+                look(8),
+                up(first, 8),
+                look(9),
+            ];
+            let answers = with_tile(&calls);
+            let looks = [3, 5, 7].map(|place: usize| answers[place].clone());
+            assert_eq!(looks, [grey(2, 7), grey(2, 7), grey(3, 7)]);
+        }
     }
 
     #[test]

@@ -4,6 +4,7 @@
 //! parts in four bytes each, and the two parts. A number that the script's end cuts off is the
 //! number of those of its bytes that are there, and a part is those of its bytes that are there.
 
+use crate::message::body::Layout;
 use crate::panel::Call;
 
 /// Bytes of a call before its parts.
@@ -15,7 +16,7 @@ pub struct Fields {
     /// 0 add, 1 link up, 2 link down, 3 message, any other look.
     pub kind: u8,
     pub clock: u64,
-    /// The hold time of an add, the tile of a look.
+    /// The hold time of an add, the number of a link up's layout, the tile of a look.
     pub number: u64,
     /// The type of an add, the bytes of a message.
     pub first: Vec<u8>,
@@ -63,7 +64,10 @@ impl Fields {
                 name: self.second,
                 hold_time: self.number,
             },
-            1 => Call::LinkUp { clock },
+            1 => Call::LinkUp {
+                layout: Layout::of(self.number),
+                clock,
+            },
             2 => Call::LinkDown { clock },
             3 => Call::Message {
                 clock,
@@ -94,7 +98,10 @@ impl Fields {
                 second: name.clone(),
                 ..of_kind(0, 0)
             },
-            Call::LinkUp { clock } => of_kind(1, *clock),
+            Call::LinkUp { layout, clock } => Fields {
+                number: layout.number().into(),
+                ..of_kind(1, *clock)
+            },
             Call::LinkDown { clock } => of_kind(2, *clock),
             Call::Message { clock, bytes } => Fields {
                 first: bytes.clone(),
@@ -130,7 +137,7 @@ fn number(bytes: &[u8]) -> u64 {
 
 #[cfg(test)]
 mod tests {
-    use super::{decode, encode, Fields};
+    use super::{decode, encode, Fields, Layout};
     use crate::panel::Call;
 
     fn add() -> Call {
@@ -141,11 +148,16 @@ mod tests {
         }
     }
 
-    fn one_of_each() -> [Call; 5] {
+    fn up(layout: Layout) -> Call {
+        Call::LinkUp { layout, clock: 1 }
+    }
+
+    fn one_of_each() -> [Call; 6] {
         let bytes = b"bytes".to_vec();
         [
             add(),
-            Call::LinkUp { clock: 1 },
+            up(Layout::New),
+            up(Layout::Old),
             Call::LinkDown { clock: u64::MAX },
             Call::Message { clock: 2, bytes },
             Call::Look {
@@ -182,12 +194,24 @@ mod tests {
             let mut fields = Fields::of(&call);
             match fields.kind {
                 0 => fields.clock = 7,
+                1 => fields.first = vec![7; 30],
                 3 => (fields.number, fields.second) = (7, vec![7; 30]),
                 4 => (fields.kind, fields.first, fields.second) = (255, vec![7], vec![7; 2]),
                 _ => (fields.number, fields.first) = (7, vec![7; 30]),
             }
             let script = [fields.encode(), encode(&[add()])].concat();
             assert_eq!(decode(&script), [call, add()]);
+        }
+    }
+
+    #[test]
+    fn a_link_up_of_another_number_than_1_names_the_new_layout() {
+        for number in [0, 2, 256, 257, 1 << 56, u64::MAX] {
+            let fields = Fields {
+                number,
+                ..Fields::of(&up(Layout::Old))
+            };
+            assert_eq!(decode(&fields.encode()), [up(Layout::New)]);
         }
     }
 

@@ -29,8 +29,8 @@ pub struct VectorFile {
 }
 
 /// The inputs and the outputs of the programs `vectors`, topic by topic, `listing`, `panel_scripts`
-/// and `feed_streams`.
-pub fn files() -> [VectorFile; 8] {
+/// and `feed_streams`, and a stream of the new layout with its listing.
+pub fn files() -> [VectorFile; 10] {
     let topics = [
         crc::cases(),
         contents::cases(),
@@ -45,6 +45,8 @@ pub fn files() -> [VectorFile; 8] {
     let cases = topics.concat();
     let sample = streams::listing_input();
     let table = listing::table(&sample).into_bytes();
+    let stream = streams::new_layout();
+    let listing = listing::table(&stream).into_bytes();
     let scripts = scripts::scripts();
     let feeds = feeds::feeds();
     let file = |path, bytes| VectorFile { path, bytes };
@@ -57,6 +59,8 @@ pub fn files() -> [VectorFile; 8] {
         file("crates/panel_scripts/stdout", scripts::output(&scripts)),
         file("crates/feed_streams/stdin", feeds::input(&feeds)),
         file("crates/feed_streams/stdout", feeds::output(&feeds)),
+        file("samples/new-layout.igtl", stream),
+        file("samples/new-layout.txt", listing),
     ]
 }
 
@@ -69,7 +73,7 @@ mod tests {
 
     #[test]
     fn the_inputs_are_read_whole() {
-        let [vectors, _, _, _, scripts, _, feeds, _] = files();
+        let [vectors, _, _, _, scripts, _, feeds, _, _, _] = files();
         let lengths = [vectors, scripts, feeds].map(|file| file.bytes.len());
         assert!(lengths
             .iter()

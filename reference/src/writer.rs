@@ -6,6 +6,7 @@ use crate::content::image::{Header, Image};
 use crate::content::parse_nested;
 use crate::content::pose::{Position, Transform};
 use crate::fault::Fault;
+use crate::message::body::Layout;
 use crate::message::{header, Message};
 
 /// How many bytes were written.
@@ -52,8 +53,8 @@ pub fn write_header(header: &header::Header, out: &mut [u8]) -> Written {
     store(&header.encode()?, out)
 }
 
-pub fn write_message(message: &Message, out: &mut [u8]) -> Written {
-    store(&message.encode()?, out)
+pub fn write_message(layout: Layout, message: &Message, out: &mut [u8]) -> Written {
+    store(&message.encode(layout)?, out)
 }
 
 fn store(bytes: &[u8], out: &mut [u8]) -> Written {
@@ -67,6 +68,7 @@ mod tests {
     use super::{write_bind, write_message, write_position, write_transform};
     use crate::content::pose::Transform;
     use crate::fault::Fault;
+    use crate::message::body::Layout;
     use crate::message::Message;
 
     #[test]
@@ -111,12 +113,14 @@ mod tests {
             version: 1,
             ..Message::default()
         };
-        let mut out = [7; 59];
-        let room = &mut out[..57];
-        assert_eq!(write_message(&message, room), Err(Fault::Room));
-        assert_eq!(out, [7; 59]);
-        assert_eq!(write_message(&message, &mut out), Ok(58));
-        assert_eq!(out[..3], [0, 1, 0]);
-        assert_eq!(out[57..], [0, 7]);
+        for layout in Layout::BOTH {
+            let mut out = [7; 59];
+            let room = &mut out[..57];
+            assert_eq!(write_message(layout, &message, room), Err(Fault::Room));
+            assert_eq!(out, [7; 59]);
+            assert_eq!(write_message(layout, &message, &mut out), Ok(58));
+            assert_eq!(out[..3], [0, 1, 0]);
+            assert_eq!(out[57..], [0, 7]);
+        }
     }
 }

@@ -4,6 +4,7 @@ use mathlib.Core.Path.{_≡_}
 use mathlib.Core.List.{List, [], _∷_, _++_, map}
 use lib.ListN.{replicate}
 use Rattle.fields.specs.Layout.{join}
+use Rattle.message.specs.declared.Layout.{Layout}
 use Rattle.message.specs.declared.Answer.{Answer}
 use Rattle.message.specs.Check.{refused}
 use Rattle.feed.specs.declared.PushAnswer.the-variants.{Nothing, Read}
@@ -68,17 +69,17 @@ pub record Examples : Type 0 where
   pub pushed-bytes : pushedBytes (Read thirteen) 20 300 ≡ answerBytes thirteen ++ (byte 1 ++ (byte 20 ++ (0 ∷ 0 ∷ 0 ∷ 0 ∷ 0 ∷ 0 ∷ 1 ∷ 44 ∷ [])))
   -- a buffer of 58 bytes; the stream is a message of zeros, of version 0 and without a body, and eight bytes more. No push, and two that do not
   -- end the message; then one that is offered 57 bytes and one that is offered nine
-  pub fed-none : fedBytes (openOf 58) [] zeroStream (replicate 58 9) ≡ pushedBytes Nothing 0 0
-  pub fed-part : fedBytes (openOf 58) (0 ∷ 0 ∷ 0 ∷ 20 ∷ 0 ∷ 0 ∷ 0 ∷ 30 ∷ []) zeroStream (replicate 58 9) ≡ pushedBytes Nothing 30 50
-  pub fed : fedBytes (openOf 58) twoLengths zeroStream (replicate 58 9) ≡ pushedBytes (Read (refused 4 58)) 1 0
-  pub fed-total : fedTotal (openOf 58) twoLengths zeroStream (replicate 58 9) ≡ 58
-  pub fed-buffer : fedBuffer (openOf 58) twoLengths zeroStream (replicate 58 9) ≡ replicate 58 0
+  pub fed-none : (l : Layout) → fedBytes (openOf l 58) [] zeroStream (replicate 58 9) ≡ pushedBytes Nothing 0 0
+  pub fed-part : (l : Layout) → fedBytes (openOf l 58) (0 ∷ 0 ∷ 0 ∷ 20 ∷ 0 ∷ 0 ∷ 0 ∷ 30 ∷ []) zeroStream (replicate 58 9) ≡ pushedBytes Nothing 30 50
+  pub fed : (l : Layout) → fedBytes (openOf l 58) twoLengths zeroStream (replicate 58 9) ≡ pushedBytes (Read (refused 4 58)) 1 0
+  pub fed-total : (l : Layout) → fedTotal (openOf l 58) twoLengths zeroStream (replicate 58 9) ≡ 58
+  pub fed-buffer : (l : Layout) → fedBuffer (openOf l 58) twoLengths zeroStream (replicate 58 9) ≡ replicate 58 0
   -- 257 bytes are offered, so that all is taken that the feed takes; three bytes are no length
-  pub fed-more : fedTotal (openOf 58) (0 ∷ 0 ∷ 1 ∷ 1 ∷ 0 ∷ 0 ∷ 0 ∷ []) zeroStream (replicate 58 9) ≡ 58
+  pub fed-more : (l : Layout) → fedTotal (openOf l 58) (0 ∷ 0 ∷ 1 ∷ 1 ∷ 0 ∷ 0 ∷ 0 ∷ []) zeroStream (replicate 58 9) ≡ 58
   -- a buffer of 57 bytes: the opening is refused
-  pub fed-refused : fedBytes (openOf 57) twoLengths zeroStream (replicate 57 9) ≡ pushedBytes (pushing.Refused 20) 0 0
-  pub fed-nothing : fedTotal (openOf 57) twoLengths zeroStream (replicate 57 9) ≡ 0
-  pub fed-unwritten : fedBuffer (openOf 57) twoLengths zeroStream (replicate 57 9) ≡ replicate 57 9
+  pub fed-refused : (l : Layout) → fedBytes (openOf l 57) twoLengths zeroStream (replicate 57 9) ≡ pushedBytes (pushing.Refused 20) 0 0
+  pub fed-nothing : (l : Layout) → fedTotal (openOf l 57) twoLengths zeroStream (replicate 57 9) ≡ 0
+  pub fed-unwritten : (l : Layout) → fedBuffer (openOf l 57) twoLengths zeroStream (replicate 57 9) ≡ replicate 57 9
   pub codes : map answerCode sevenAnswers ≡ 0 ∷ 1 ∷ 2 ∷ 3 ∷ 4 ∷ 5 ∷ 6 ∷ []
   pub carried : map carriedNumber sevenAnswers ≡ 0 ∷ 7 ∷ 0 ∷ 8 ∷ 9 ∷ 10 ∷ 0 ∷ []
   -- green with the age 500 and a value of two bytes

@@ -1,5 +1,6 @@
 // What programs in other languages call: the library as a static archive, for scripts/differential and scripts/bench. A slice is a pointer
-// and a length there. An answer of several numbers is written into a lent buffer, each number in eight bytes.
+// and a length there. A layout is a number: 1 is the old one, any other the new. An answer of several numbers is written into a lent buffer, each
+// number in eight bytes.
 use feed::Feed;
 use feed::OpenAnswer;
 use feed::PushAnswer;
@@ -16,6 +17,7 @@ ghost use Rattle.fields.specs.Answer.{writtenNumber, writtenCount};
 ghost use Rattle.fields.specs.Layout.{stores, numberFields};
 ghost use Rattle.crc64.specs.Crc.{crcOf};
 ghost use Rattle.content.specs.Check.{contentFault, deepest};
+ghost use Rattle.message.specs.Layouts.{layoutOf};
 ghost use Rattle.message.specs.Check.{readOf};
 ghost use Rattle.message.specs.Writer.{messageWritten, messageOut};
 ghost use Rattle.feed.specs.Push.{openOf};
@@ -42,11 +44,12 @@ pub extern "C" fn kudireppa_content_number(type_text: &[u8], content: &[u8]) -> 
 
 // The step of the front of a stream; the number goes into `number`.
 #[no_mangle]
-pub extern "C" fn kudireppa_read(stream: &[u8], number: &mut u8) -> usize
-    ensures step { λ r. ⌜ r ≡ readOf (now (stream .entry)) .step ⌝ }
-    ensures number { λ _. ⌜ now (number .exit) ≡ readOf (now (stream .entry)) .number ⌝ }
+pub extern "C" fn kudireppa_read(layout: u8, stream: &[u8], number: &mut u8) -> usize
+    ensures step { λ r. ⌜ r ≡ readOf (layoutOf layout) (now (stream .entry)) .step ⌝ }
+    ensures number { λ _. ⌜ now (number .exit) ≡ readOf (layoutOf layout) (now (stream .entry)) .number ⌝ }
 {
-    let answer = message::read(stream);
+    let named = message::layout_of(layout as u64);
+    let answer = message::read(named, stream);
     *number = answer.number;
     answer.step
 }
@@ -84,15 +87,17 @@ fn put_answer(answer: Answer, out: &mut [u8])
 
 // The answer to the front of a stream: 104 bytes.
 #[no_mangle]
-pub extern "C" fn kudireppa_read_fields(stream: &[u8], out: &mut [u8])
-    ensures { λ _. ⌜ now (out .exit) ≡ sets (now (out .entry)) 0 (answerBytes (readOf (now (stream .entry)))) ⌝ }
+pub extern "C" fn kudireppa_read_fields(layout: u8, stream: &[u8], out: &mut [u8])
+    ensures { λ _. ⌜ now (out .exit) ≡ sets (now (out .entry)) 0 (answerBytes (readOf (layoutOf layout) (now (stream .entry)))) ⌝ }
 {
-    put_answer(message::read(stream), out);
+    let named = message::layout_of(layout as u64);
+    put_answer(message::read(named, stream), out);
 }
 
 // How many bytes of the message were written, 0 where it is refused; the number goes into `number`.
 #[no_mangle]
 pub extern "C" fn kudireppa_write(
+    layout: u8,
     version: u16,
     time_stamp: u64,
     id: u32,
@@ -104,16 +109,18 @@ pub extern "C" fn kudireppa_write(
     out: &mut [u8],
     number: &mut u8,
 ) -> usize
-    ensures count { λ r. ⌜ r ≡ writtenCount (messageWritten (messageGiven version «time_stamp» id (now («type_text» .entry)) (now («device_name» .entry)) (now (further .entry)) (now (content .entry)) (now (metadata .entry))) (length (now (out .entry)))) ⌝ }
-    ensures number { λ _. ⌜ now (number .exit) ≡ writtenNumber (messageWritten (messageGiven version «time_stamp» id (now («type_text» .entry)) (now («device_name» .entry)) (now (further .entry)) (now (content .entry)) (now (metadata .entry))) (length (now (out .entry)))) ⌝ }
-    ensures bytes { λ _. ⌜ now (out .exit) ≡ messageOut (messageGiven version «time_stamp» id (now («type_text» .entry)) (now («device_name» .entry)) (now (further .entry)) (now (content .entry)) (now (metadata .entry))) (now (out .entry)) ⌝ }
+    ensures count { λ r. ⌜ r ≡ writtenCount (messageWritten (layoutOf layout) (messageGiven version «time_stamp» id (now («type_text» .entry)) (now («device_name» .entry)) (now (further .entry)) (now (content .entry)) (now (metadata .entry))) (length (now (out .entry)))) ⌝ }
+    ensures number { λ _. ⌜ now (number .exit) ≡ writtenNumber (messageWritten (layoutOf layout) (messageGiven version «time_stamp» id (now («type_text» .entry)) (now («device_name» .entry)) (now (further .entry)) (now (content .entry)) (now (metadata .entry))) (length (now (out .entry)))) ⌝ }
+    ensures bytes { λ _. ⌜ now (out .exit) ≡ messageOut (layoutOf layout) (messageGiven version «time_stamp» id (now («type_text» .entry)) (now («device_name» .entry)) (now (further .entry)) (now (content .entry)) (now (metadata .entry))) (now (out .entry)) ⌝ }
 {
     let fixed = FixedFields {
         version: version,
         time_stamp: time_stamp,
         id: id,
     };
+    let named = message::layout_of(layout as u64);
     let written = message::write(
+        named,
         fixed,
         type_text,
         device_name,
@@ -197,16 +204,18 @@ fn push_all(opened: Feed, lengths: &[u8], stream: &[u8], buffer: &mut [u8]) -> F
 // refusal of the opening. Gives how many bytes were taken.
 #[no_mangle]
 pub extern "C" fn kudireppa_feed(
+    layout: u8,
     lengths: &[u8],
     stream: &[u8],
     buffer: &mut [u8],
     out: &mut [u8],
 ) -> usize
-    ensures total { λ r. ⌜ r ≡ fedTotal (openOf (length (now (buffer .entry)))) (now (lengths .entry)) (now (stream .entry)) (now (buffer .entry)) ⌝ }
-    ensures bytes { λ _. ⌜ now (buffer .exit) ≡ fedBuffer (openOf (length (now (buffer .entry)))) (now (lengths .entry)) (now (stream .entry)) (now (buffer .entry)) ⌝ }
-    ensures out { λ _. ⌜ now (out .exit) ≡ sets (now (out .entry)) 0 (fedBytes (openOf (length (now (buffer .entry)))) (now (lengths .entry)) (now (stream .entry)) (now (buffer .entry))) ⌝ }
+    ensures total { λ r. ⌜ r ≡ fedTotal (openOf (layoutOf layout) (length (now (buffer .entry)))) (now (lengths .entry)) (now (stream .entry)) (now (buffer .entry)) ⌝ }
+    ensures bytes { λ _. ⌜ now (buffer .exit) ≡ fedBuffer (openOf (layoutOf layout) (length (now (buffer .entry)))) (now (lengths .entry)) (now (stream .entry)) (now (buffer .entry)) ⌝ }
+    ensures out { λ _. ⌜ now (out .exit) ≡ sets (now (out .entry)) 0 (fedBytes (openOf (layoutOf layout) (length (now (buffer .entry)))) (now (lengths .entry)) (now (stream .entry)) (now (buffer .entry))) ⌝ }
 {
-    let opened = feed::open_feed(buffer);
+    let named = message::layout_of(layout as u64);
+    let opened = feed::open_feed(named, buffer);
     match opened {
         OpenAnswer::Opened(feed) => {
             let fed = push_all(feed, lengths, stream, buffer);

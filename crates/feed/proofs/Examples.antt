@@ -1,6 +1,6 @@
--- The examples, by computation; the answers to the messages of version 1 are those of the samples.
+-- The examples, by computation; the answers to the messages of versions 1 and 2 are those of the samples.
 use Prim.Native.Nat.{ℕ, _≤_}
-use mathlib.Core.Path.{refl, sym, ap}
+use mathlib.Core.Path.{_≡_, refl, sym, ap}
 use mathlib.Core.List.{List, [], _∷_, _++_}
 use native.Mathlib.Omega.{arith}
 use lib.ListN.{length}
@@ -9,20 +9,23 @@ use Rattle.fields.specs.Lists.{all, flat}
 use Rattle.fields.specs.Numbers.{beVal}
 use Rattle.fields.specs.Text.{isText, textOf, pastText, allZero, textOk, textClean, fieldOk}
 use Rattle.header.specs.Check.{headerOf, shortFault, textsFault, limitFault, headerFault}
-use Rattle.message.specs.Check.{wholeFault, versionFault, bodyChecks, frontFault, numberOf, stepOf, readOf}
+use Rattle.message.specs.declared.Layout.{Layout}
+use Rattle.message.specs.declared.Layout.the-variants.{New, Old}
+use Rattle.message.specs.declared.Answer.{Answer}
+use Rattle.message.specs.Check.{wholeFault, versionFault, bodyChecks, frontFault, numberOf, stepOf, refused, readOf}
 use Rattle.message.specs.Message.{WellFormed, encode}
-use Rattle.message.specs.Samples.{armMessage}
+use Rattle.message.specs.Samples.{armMessage, probeBytes, probeAnswer}
 use Rattle.message.proofs.Samples.{samples}
 use Rattle.feed.specs.Push.{openOf, pushFault, passedOf, fittingOf, takenIn, pushOf, storedTo, bufferOf}
 use Rattle.feed.specs.Runs.{runOn}
-use Rattle.feed.specs.Examples.{Examples}
+use Rattle.feed.specs.Examples.{Common, Twice, Examples}
 
-arm-sent : WellFormed armMessage × (length (encode armMessage) ≤ 108)
-arm-sent = (samples .arm .well, omega (arith, ap length (samples .arm .bytes)))
+arm-sent : (l : Layout) → WellFormed l armMessage × (length (encode l armMessage) ≤ 108)
+arm-sent l = (samples .arm l .well, omega (arith, ap length (samples .arm l .bytes)))
 
-pub examples : Examples
+common : (l : Layout) → Common l
 unfolding roomFault all flat beVal isText textOf pastText allZero textOk textClean fieldOk headerOf shortFault textsFault limitFault headerFault wholeFault versionFault bodyChecks frontFault numberOf stepOf readOf openOf pushFault passedOf fittingOf takenIn pushOf storedTo bufferOf runOn
-examples =
+common l =
     record {
       too-short = refl;
       opens = refl;
@@ -44,13 +47,13 @@ examples =
       stops-long = record { answers = refl; feed = refl; taken = refl; buffer = refl };
       accepts =
           record {
-            answers = λ i. samples .arm .damaged i ∷ samples .arm .read i ∷ [];
+            answers = λ i. samples .arm l .damaged i ∷ samples .arm l .read i ∷ [];
             feed = refl;
             taken = refl;
             buffer = refl;
           };
-      sent = (arm-sent, (arm-sent, tt));
-      sent-taken = sym (ap (λ (s : List ℕ). s ++ (s ++ [])) (samples .arm .bytes));
+      sent = (arm-sent l, (arm-sent l, tt));
+      sent-taken = sym (ap (λ (s : List ℕ). s ++ (s ++ [])) (samples .arm l .bytes));
       stopped = refl;
       longer = refl;
       shorter = refl;
@@ -58,3 +61,17 @@ examples =
       unwritten = refl;
       kept-len = refl;
     }
+
+-- the message of V 2 in its two layouts: the answers of the runs are the reader's
+twice : (l : Layout) (a b : Answer) → readOf l (probeBytes New) ≡ a → readOf l (probeBytes Old) ≡ b → Twice l (probeBytes New) a × Twice l (probeBytes Old) b
+unfolding roomFault all beVal isText textOf pastText allZero textOk textClean fieldOk headerOf shortFault textsFault limitFault headerFault pushFault fittingOf takenIn pushOf storedTo bufferOf runOn
+twice l a b e d = (
+  record { answers = λ i. e i ∷ e i ∷ []; feed = refl; taken = refl; buffer = refl },
+  record { answers = λ i. d i ∷ d i ∷ []; feed = refl; taken = refl; buffer = refl },
+)
+
+pub examples : Examples
+examples =
+    let new = twice New probeAnswer (refused 6 88) (samples .probe New .read) (samples .other-probe Old) in
+    let old = twice Old (refused 6 88) probeAnswer (samples .other-probe New) (samples .probe Old .read) in
+    record { common = common; new-as-new = new .0; new-as-old = old .0; old-as-old = old .1; old-as-new = new .1 }

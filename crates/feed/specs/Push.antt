@@ -7,6 +7,7 @@ use lib.ListN.{length, take}
 use lib.Seq.{sets}
 use Rattle.fields.specs.Answer.{roomFault}
 use Rattle.header.specs.Check.{headerFault}
+use Rattle.message.specs.declared.Layout.{Layout}
 use Rattle.message.specs.Check.{readOf, refused}
 use Rattle.feed.specs.Reading.{endOf}
 use Rattle.feed.specs.declared.Feed.{Feed}
@@ -18,24 +19,24 @@ use Rattle.feed.specs.declared.PushResult.{PushResult}
 
 -- ---- feeds
 
-abbrev pub stateOf : ℕ → ℕ → ℕ → ℕ → Bool → Feed
-stateOf room kept step left stopped = record { room = room; kept = kept; step = step; left = left; stopped = stopped }
+abbrev pub stateOf : Layout → ℕ → ℕ → ℕ → ℕ → Bool → Feed
+stateOf l room kept step left stopped = record { layout = l; room = room; kept = kept; step = step; left = left; stopped = stopped }
 
--- one that keeps so many bytes at the front of a buffer of so many
-abbrev pub keeping : ℕ → ℕ → Feed
-keeping room kept = stateOf room kept 0 0 false
+-- one that reads in this layout and keeps so many bytes at the front of a buffer of so many
+abbrev pub keeping : Layout → ℕ → ℕ → Feed
+keeping l room kept = stateOf l room kept 0 0 false
 
 -- one that passes over a message of step bytes, of which so many are left
-abbrev pub passing : ℕ → ℕ → ℕ → Feed
-passing room step left = stateOf room 0 step left false
+abbrev pub passing : Layout → ℕ → ℕ → ℕ → Feed
+passing l room step left = stateOf l room 0 step left false
 
 -- one that has answered 2 or 3 (rule 12.9)
-abbrev pub stoppedFeed : ℕ → Feed
-stoppedFeed room = stateOf room 0 0 0 true
+abbrev pub stoppedFeed : Layout → ℕ → Feed
+stoppedFeed l room = stateOf l room 0 0 0 true
 
--- over a buffer of so many bytes; 20 for fewer than 58 (rule 12.2)
-unfoldable pub openOf : ℕ → OpenAnswer
-openOf room = cond (ltb room 58) (opening.Refused 20) (opening.Opened (keeping room 0))
+-- in this layout, over a buffer of so many bytes; 20 for fewer than 58 (rule 12.2)
+unfoldable pub openOf : Layout → ℕ → OpenAnswer
+openOf l room = cond (ltb room 58) (opening.Refused 20) (opening.Opened (keeping l room 0))
 
 -- ---- a push
 
@@ -54,27 +55,27 @@ abbrev pub keptIn : Feed → List ℕ → List ℕ
 keptIn f buf = take (keptLen f) buf
 
 -- a fragment of n bytes, where a message of step bytes is passed over and so many are left (rule 12.7)
-unfoldable pub passedOf : ℕ → ℕ → ℕ → ℕ → PushResult
-passedOf room step left n =
-    cond (ltb n left) (pushed Nothing (passing room step (left - n)) n) (pushed (Read (refused 20 step)) (keeping room 0) left)
+unfoldable pub passedOf : Layout → ℕ → ℕ → ℕ → ℕ → PushResult
+passedOf l room step left n =
+    cond (ltb n left) (pushed Nothing (passing l room step (left - n)) n) (pushed (Read (refused 20 step)) (keeping l room 0) left)
 
 -- u is what was kept, k bytes, and then the fragment, n bytes. The message at its front, of e bytes, fits the buffer: it is not whole, or it is read
-unfoldable pub fittingOf : ℕ → ℕ → ℕ → List ℕ → ℕ → PushResult
-fittingOf room k n u e =
-    cond (ltb (length u) e) (pushed Nothing (keeping room (length u)) n) (pushed (Read (readOf (take e u))) (keeping room 0) (e - k))
+unfoldable pub fittingOf : Layout → ℕ → ℕ → ℕ → List ℕ → ℕ → PushResult
+fittingOf l room k n u e =
+    cond (ltb (length u) e) (pushed Nothing (keeping l room (length u)) n) (pushed (Read (readOf l (take e u))) (keeping l room 0) (e - k))
 
 -- the same u: its header is not whole, or it is refused, or its message fits the buffer, or it exceeds it (12.3, 12.4)
-unfoldable pub takenIn : ℕ → ℕ → ℕ → List ℕ → PushResult
-takenIn room k n u =
-    cond (ltb (length u) 58) (pushed Nothing (keeping room (length u)) n)
+unfoldable pub takenIn : Layout → ℕ → ℕ → ℕ → List ℕ → PushResult
+takenIn l room k n u =
+    cond (ltb (length u) 58) (pushed Nothing (keeping l room (length u)) n)
     (cond (eqb (headerFault u) 0)
-    (cond (leb (endOf u) room) (fittingOf room k n u (endOf u)) (passedOf room (endOf u) (endOf u - k) n))
-    (pushed (Read (refused (headerFault u) 0)) (stoppedFeed room) (58 - k)))
+    (cond (leb (endOf u) room) (fittingOf l room k n u (endOf u)) (passedOf l room (endOf u) (endOf u - k) n))
+    (pushed (Read (refused (headerFault u) 0)) (stoppedFeed l room) (58 - k)))
 
 unfoldable pub pushOf : Feed → List ℕ → List ℕ → PushResult
 pushOf f s buf =
     cond (eqb (pushFault f (length buf)) 0)
-    (cond (eqb (f .left) 0) (takenIn (length buf) (length (keptIn f buf)) (length s) (keptIn f buf ++ s)) (passedOf (length buf) (f .step) (f .left) (length s)))
+    (cond (eqb (f .left) 0) (takenIn (f .layout) (length buf) (length (keptIn f buf)) (length s) (keptIn f buf ++ s)) (passedOf (f .layout) (length buf) (f .step) (f .left) (length s)))
     (pushed (Refused (pushFault f (length buf))) f 0)
 
 -- ---- the buffer

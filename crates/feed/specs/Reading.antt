@@ -1,10 +1,12 @@
--- Reading a stream from its front, message after message, with a buffer of so many bytes (rules 12.6 to 12.9). No feed and no push is mentioned.
+-- Reading a stream from its front, message after message, in a layout and with a buffer of so many bytes (rules 12.6 to 12.9). No feed and no
+-- push is mentioned.
 use Prim.Native.Nat.{ℕ, zero, suc, _+_}
 use mathlib.Core.Bool.{Bool, true, false, cond, _&&_}
 use mathlib.Core.List.{List, [], _∷_, _++_}
 use lib.Dec.{eqb, leb, ltb}
 use lib.ListN.{length, drop}
 use Rattle.header.specs.Check.{headerOf, headerFault}
+use Rattle.message.specs.declared.Layout.{Layout}
 use Rattle.message.specs.declared.Answer.{Answer}
 use Rattle.message.specs.Check.{readOf, refused}
 
@@ -33,13 +35,13 @@ behind xs r = record { answers = xs ++ r .answers; kept = r .kept; stopped = r .
 
 -- at most n messages: the next one begins at the step. Where the step is 0, a message that is not whole (1) has no answer yet, and nothing
 -- follows 2 or 3
-unfoldable pub readingWithin : ℕ → ℕ → List ℕ → Reading
-readingWithin room zero s = record { answers = []; kept = s; stopped = false }
-readingWithin room (suc n) s =
-    cond (eqb (readOf s .step) 0)
-    (cond (eqb (readOf s .number) 1) (record { answers = []; kept = tailKept room s; stopped = false }) (record { answers = readOf s ∷ []; kept = []; stopped = true }))
-    (behind (answerFor room (readOf s) ∷ []) (readingWithin room n (drop (readOf s .step) s)))
+unfoldable pub readingWithin : Layout → ℕ → ℕ → List ℕ → Reading
+readingWithin l room zero s = record { answers = []; kept = s; stopped = false }
+readingWithin l room (suc n) s =
+    cond (eqb (readOf l s .step) 0)
+    (cond (eqb (readOf l s .number) 1) (record { answers = []; kept = tailKept room s; stopped = false }) (record { answers = readOf l s ∷ []; kept = []; stopped = true }))
+    (behind (answerFor room (readOf l s) ∷ []) (readingWithin l room n (drop (readOf l s .step) s)))
 
 -- a message has at least 58 bytes, so there are no more messages than bytes
-abbrev pub readingOf : ℕ → List ℕ → Reading
-readingOf room s = readingWithin room (suc (length s)) s
+abbrev pub readingOf : Layout → ℕ → List ℕ → Reading
+readingOf l room s = readingWithin l room (suc (length s)) s

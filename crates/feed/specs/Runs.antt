@@ -3,6 +3,7 @@
 use Prim.Native.Nat.{ℕ}
 use mathlib.Core.List.{List, [], _∷_, _++_}
 use lib.ListN.{length, take}
+use Rattle.message.specs.declared.Layout.{Layout}
 use Rattle.message.specs.declared.Answer.{Answer}
 use Rattle.feed.specs.declared.Feed.{Feed}
 use Rattle.feed.specs.declared.PushAnswer.{PushAnswer}
@@ -35,13 +36,13 @@ unfoldable pub runOn : Run → List (List ℕ) → Run
 runOn r [] = r
 runOn r (s ∷ ss) = runOn (after r s) ss
 
--- before the first push, over this buffer
-abbrev pub opened : List ℕ → Run
-opened buf = record { feed = keeping (length buf) 0; buffer = buf; answers = []; taken = [] }
+-- before the first push, in this layout and over this buffer
+abbrev pub opened : Layout → List ℕ → Run
+opened l buf = record { feed = keeping l (length buf) 0; buffer = buf; answers = []; taken = [] }
 
--- from an opening over this buffer, with these fragments
-abbrev pub run : List ℕ → List (List ℕ) → Run
-run buf ss = runOn (opened buf) ss
+-- from an opening in this layout over this buffer, with these fragments
+abbrev pub run : Layout → List ℕ → List (List ℕ) → Run
+run l buf ss = runOn (opened l buf) ss
 
 -- what was read by a run
 abbrev pub readBy : Run → Reading

@@ -3,6 +3,7 @@
 use fields::room_fault;
 use fields::slice::first;
 use fields::store::put;
+use message::Layout;
 use message::refusal;
 ghost use mathlib.Core.Path.{_≡_};
 ghost use Prim.Native.Nat.{_-_, _≤_, min};
@@ -12,10 +13,12 @@ ghost use lib.Seq.{sets};
 ghost use Rattle.feed.specs.declared.PushAnswer.the-variants.{Nothing, Read, Refused};
 ghost use Rattle.feed.specs.Push.{stateOf, keeping, passing, stoppedFeed, openOf, pushed, pushFault, keptLen, passedOf, fittingOf, takenIn, pushOf, storedTo, bufferOf};
 
-// The length of the buffer, and how many bytes of an unfinished message stand at its front. Of a message that exceeds the buffer and is passed
-// over: its length, and how many of its bytes are left; otherwise both are 0. And whether an answer was 2 or 3. Each push gets the feed that the
-// last one returned: an older copy stands for an older place in the stream.
+// The layout that messages are read in, the length of the buffer, and how many bytes of an unfinished message stand at its front. Of a message
+// that exceeds the buffer and is passed over: its length, and how many of its bytes are left; otherwise both are 0. And whether an answer was 2 or
+// 3. Each push gets the feed that the last one returned: an older copy stands for an older place in the stream. The opening names the layout that the
+// sender writes (rule 3.15).
 pub struct Feed {
+    layout: Layout,
     room: usize,
     kept: usize,
     step: usize,
@@ -44,10 +47,11 @@ pub struct PushResult {
 
 // ---- feeds
 
-fn state(room: usize, kept: usize, step: usize, left: usize, stopped: bool) -> Feed
-    ensures { λ r. ⌜ r ≡ stateOf room kept step left stopped ⌝ }
+fn state(layout: Layout, room: usize, kept: usize, step: usize, left: usize, stopped: bool) -> Feed
+    ensures { λ r. ⌜ r ≡ stateOf layout room kept step left stopped ⌝ }
 {
     Feed {
+        layout: layout,
         room: room,
         kept: kept,
         step: step,
@@ -56,33 +60,33 @@ fn state(room: usize, kept: usize, step: usize, left: usize, stopped: bool) -> F
     }
 }
 
-fn keeping(room: usize, kept: usize) -> Feed
-    ensures { λ r. ⌜ r ≡ keeping room kept ⌝ }
+fn keeping(layout: Layout, room: usize, kept: usize) -> Feed
+    ensures { λ r. ⌜ r ≡ keeping layout room kept ⌝ }
 {
-    state(room, kept, 0, 0, false)
+    state(layout, room, kept, 0, 0, false)
 }
 
-fn passing(room: usize, step: usize, left: usize) -> Feed
-    ensures { λ r. ⌜ r ≡ passing room step left ⌝ }
+fn passing(layout: Layout, room: usize, step: usize, left: usize) -> Feed
+    ensures { λ r. ⌜ r ≡ passing layout room step left ⌝ }
 {
-    state(room, 0, step, left, false)
+    state(layout, room, 0, step, left, false)
 }
 
-fn stopped_feed(room: usize) -> Feed
-    ensures { λ r. ⌜ r ≡ stoppedFeed room ⌝ }
+fn stopped_feed(layout: Layout, room: usize) -> Feed
+    ensures { λ r. ⌜ r ≡ stoppedFeed layout room ⌝ }
 {
-    state(room, 0, 0, 0, true)
+    state(layout, room, 0, 0, 0, true)
 }
 
-// Opens a feed over a buffer of at least 58 bytes; 20 for a shorter one. No byte of it is changed.
-pub fn open_feed(buffer: &[u8]) -> OpenAnswer
-    ensures { λ r. ⌜ r ≡ openOf (length (now (buffer .entry))) ⌝ }
+// Opens a feed that reads in this layout, over a buffer of at least 58 bytes; 20 for a shorter one. No byte of it is changed.
+pub fn open_feed(layout: Layout, buffer: &[u8]) -> OpenAnswer
+    ensures { λ r. ⌜ r ≡ openOf layout (length (now (buffer .entry))) ⌝ }
 {
     let room = buffer.len();
     if room < 58 {
         return OpenAnswer::Refused(20);
     }
-    OpenAnswer::Opened(keeping(room, 0))
+    OpenAnswer::Opened(keeping(layout, room, 0))
 }
 
 // ---- the results of a push
@@ -146,13 +150,13 @@ fn push_fault(feed: Feed, room: usize) -> u8
 }
 
 // A fragment of n bytes, where a message of `step` bytes is passed over and `left` of them are to come.
-fn pass(room: usize, step: usize, left: usize, n: usize) -> PushResult
-    ensures { λ r. ⌜ r ≡ passedOf room step left n ⌝ }
+fn pass(layout: Layout, room: usize, step: usize, left: usize, n: usize) -> PushResult
+    ensures { λ r. ⌜ r ≡ passedOf layout room step left n ⌝ }
 {
     if n < left {
-        return waits(passing(room, step, left - n), n);
+        return waits(passing(layout, room, step, left - n), n);
     }
-    answers(keeping(room, 0), refusal(20, step), left)
+    answers(keeping(layout, room, 0), refusal(20, step), left)
 }
 
 // Stores the fragment behind the bytes kept, up to a place.
@@ -163,27 +167,33 @@ fn fill(kept: usize, to: usize, fragment: &[u8], buffer: &mut [u8])
 }
 
 // The header is whole and its message, which ends at `end`, fits the buffer.
-fn take_body(kept: usize, end: usize, fragment: &[u8], buffer: &mut [u8]) -> PushResult
+fn take_body(
+    layout: Layout,
+    kept: usize,
+    end: usize,
+    fragment: &[u8],
+    buffer: &mut [u8],
+) -> PushResult
     requires { ⌜ (kept ≤ length (now buffer)) × (end ≤ length (now buffer)) ⌝ }
     ensures answer { λ r.
-        ⌜ r ≡ fittingOf (length (now (buffer .entry))) kept (length (now (fragment .entry))) (take kept (now (buffer .entry)) ++ now (fragment .entry)) end ⌝ }
+        ⌜ r ≡ fittingOf layout (length (now (buffer .entry))) kept (length (now (fragment .entry))) (take kept (now (buffer .entry)) ++ now (fragment .entry)) end ⌝ }
     ensures bytes { λ _. ⌜ now (buffer .exit) ≡ sets (now (buffer .entry)) kept (take (end - kept) (now (fragment .entry))) ⌝ }
 {
     let room = buffer.len();
     let more = missing(kept, end);
     fill(kept, end, fragment, buffer);
     if fragment.len() < more {
-        return waits(keeping(room, kept + fragment.len()), fragment.len());
+        return waits(keeping(layout, room, kept + fragment.len()), fragment.len());
     }
-    let answer = message::read(first(buffer, end));
-    answers(keeping(room, 0), answer, more)
+    let answer = message::read(layout, first(buffer, end));
+    answers(keeping(layout, room, 0), answer, more)
 }
 
 // What a push gives that is not refused, and does not begin in a message that is passed over.
-fn take_in(kept: usize, fragment: &[u8], buffer: &mut [u8]) -> PushResult
+fn take_in(layout: Layout, kept: usize, fragment: &[u8], buffer: &mut [u8]) -> PushResult
     requires { ⌜ (58 ≤ length (now buffer)) × (kept ≤ length (now buffer)) ⌝ }
     ensures answer { λ r.
-        ⌜ r ≡ takenIn (length (now (buffer .entry))) kept (length (now (fragment .entry))) (take kept (now (buffer .entry)) ++ now (fragment .entry)) ⌝ }
+        ⌜ r ≡ takenIn layout (length (now (buffer .entry))) kept (length (now (fragment .entry))) (take kept (now (buffer .entry)) ++ now (fragment .entry)) ⌝ }
     ensures bytes { λ _.
         ⌜
         now (buffer .exit)
@@ -194,18 +204,18 @@ fn take_in(kept: usize, fragment: &[u8], buffer: &mut [u8]) -> PushResult
     let more = missing(kept, 58);
     fill(kept, 58, fragment, buffer);
     if fragment.len() < more {
-        return waits(keeping(room, kept + fragment.len()), fragment.len());
+        return waits(keeping(layout, room, kept + fragment.len()), fragment.len());
     }
     let header = header::read_header(buffer);
     let number = header.number;
     if number != 0 {
-        return answers(stopped_feed(room), refusal(number, 0), more);
+        return answers(stopped_feed(layout, room), refusal(number, 0), more);
     }
     let end = 58 + header.body_size;
     if room < end {
-        return pass(room, end, end - kept, fragment.len());
+        return pass(layout, room, end, end - kept, fragment.len());
     }
-    take_body(kept, end, fragment, buffer)
+    take_body(layout, kept, end, fragment, buffer)
 }
 
 impl Feed {
@@ -227,9 +237,10 @@ impl Feed {
         if fault != 0 {
             return refuses(self, fault);
         }
+        let layout = self.layout;
         if self.left != 0 {
-            return pass(room, self.step, self.left, fragment.len());
+            return pass(layout, room, self.step, self.left, fragment.len());
         }
-        take_in(least(self.kept, room), fragment, buffer)
+        take_in(layout, least(self.kept, room), fragment, buffer)
     }
 }

@@ -1,8 +1,9 @@
-// Pushes streams to feeds, fragment after fragment. Standard input is a run of records, each after its length in two bytes: two bytes with
-// the length of the buffer that is lent at the opening, a byte that all buffers are filled with, and the pushes. A push is two bytes with the
-// length of the buffer that is lent to it, the fragment's length in two bytes, and the fragment. For each record it prints a line with its
-// number, one with the answer to the opening, one for each push, and one with the opening's buffer afterwards. What a push has not taken of
-// its fragment is pushed again, until all is taken or nothing is. A record that the input's end cuts short ends the run.
+// Pushes streams to feeds, fragment after fragment. Standard input is a run of records, each after its length in two bytes: a byte that names
+// the feed's layout, 1 the old and any other the new; two bytes with the length of the buffer that is lent at the opening; a byte that all
+// buffers are filled with; and the pushes. A push is two bytes with the length of the buffer that is lent to it, the fragment's length in two
+// bytes, and the fragment. For each record it prints a line with its number, one with the answer to the opening, one for each push, and one with
+// the opening's buffer afterwards. What a push has not taken of its fragment is pushed again, until all is taken or nothing is. A record that the
+// input's end cuts short ends the run.
 use feed::Feed;
 use feed::OpenAnswer;
 use feed::PushAnswer;
@@ -131,14 +132,15 @@ fn print_record(number: u64, record: &[u8]) {
     print_word(b"feed");
     vector_records::print_number(number);
     vector_records::end_line();
-    let room = fields::number::be16(record, 0) as usize;
-    let mut lent = filled(fields::number::be8(record, 2));
-    let opened = feed::open_feed(fields::slice::first(&lent, room));
+    let layout = message::layout_of(fields::number::be8(record, 0) as u64);
+    let room = fields::number::be16(record, 1) as usize;
+    let mut lent = filled(fields::number::be8(record, 3));
+    let opened = feed::open_feed(layout, fields::slice::first(&lent, room));
     match opened {
         OpenAnswer::Opened(feed) => print_opened(
             feed,
             room,
-            fields::slice::rest(record, 3),
+            fields::slice::rest(record, 4),
             &mut lent,
         ),
         OpenAnswer::Refused(number) => {

@@ -13,8 +13,10 @@ use Rattle.fields.specs.Numbers.{beBytes}
 use Rattle.fields.specs.Text.{isText}
 use Rattle.pose.specs.Words.{wordBytes}
 use Rattle.content.specs.Tree as tree
+use Rattle.message.specs.declared.Layout.{Layout}
+use Rattle.message.specs.declared.Layout.the-variants.{New, Old}
 use Rattle.message.specs.Message.{Message, WellFormed, encode}
-use Rattle.message.specs.Samples.{armMessage, armBytes, zeroBytes, probeMessage, probeBytes, pointMessage, pointBytes}
+use Rattle.message.specs.Samples.{armMessage, armBytes, zeroBytes, probeMessage, probeBytes, pointMessage, pointBytes, otherThan}
 use Rattle.message.specs.declared.Answer.{Answer}
 use Rattle.message.specs.Check.{refused, numberOf, readOf}
 use Rattle.message.proofs.Examples as message
@@ -28,51 +30,69 @@ use Rattle.history.specs.Books.{damagedBytes, Read, OnBooks, Books}
 use Rattle.history.proofs.Laws.Readings.{same-reading}
 
 -- more bytes after a message
-left : (s : List ℕ) (m : Message) → WellFormed m → encode m ≡ s → (x : ℕ) (r : List ℕ) → Reads (s ++ (x ∷ r)) leftOver
-left s m w e x r = more m (record { well = w; rest = x ∷ r; bytes = ap (λ (t : List ℕ). t ++ (x ∷ r)) e }) (omega arith)
+left : (l : Layout) (s : List ℕ) (m : Message) → WellFormed l m → encode l m ≡ s → (x : ℕ) (r : List ℕ) → Reads l (s ++ (x ∷ r)) leftOver
+left l s m w e x r = more m (record { well = w; rest = x ∷ r; bytes = ap (λ (t : List ℕ). t ++ (x ∷ r)) e }) (omega arith)
+
+-- the messages of V 2 are bytes, in each layout
+probe-bytes : (l : Layout) → all (λ b. ltb b 256) (probeBytes l) ≡ true
+unfolding all
+probe-bytes New = refl
+probe-bytes Old = refl
+
+probe-more : (l : Layout) → all (λ b. ltb b 256) (probeBytes l ++ (7 ∷ [])) ≡ true
+unfolding all
+probe-more New = refl
+probe-more Old = refl
+
+point-bytes : (l : Layout) → all (λ b. ltb b 256) (pointBytes l) ≡ true
+unfolding all
+point-bytes New = refl
+point-bytes Old = refl
 
 module _ (R : Reader) where
-  read-as : (s : List ℕ) (r : Reading) → Bytes s → Reads s r → R .read s ≡ r
-  read-as s r b h = same-reading s (R .read s) r (R .reads s b) h
+  read-as : (l : Layout) (s : List ℕ) (r : Reading) → Bytes s → Reads l s r → R .read l s ≡ r
+  read-as l s r b h = same-reading l s (R .read l s) r (R .reads l s b) h
 
   -- bytes that the reader refuses
-  read-refused : (s : List ℕ) → Bytes s → (readOf s .number ≡ 0 → ⊥) → R .read s ≡ noMessage (readOf s .number)
-  read-refused s b z =
-      read-as s (noMessage (numberOf s)) b (none (λ m f. z (demand-2 .begun s m f))) ∙ ap noMessage (sym (read-number s))
+  read-refused : (l : Layout) (s : List ℕ) → Bytes s → (readOf l s .number ≡ 0 → ⊥) → R .read l s ≡ noMessage (readOf l s .number)
+  read-refused l s b z =
+      read-as l s (noMessage (numberOf l s)) b (none (λ m f. z (demand-2 l .begun s m f))) ∙ ap noMessage (sym (read-number l s))
 
-  read-none : (s : List ℕ) (k step : ℕ) → Bytes s → readOf s ≡ refused (suc k) step → R .read s ≡ noMessage (suc k)
-  read-none s k step b h =
-      let e : readOf s .number ≡ suc k = ap (λ (a : Answer). a .number) h in
-      read-refused s b (λ z. suc-ne-zero k (sym e ∙ z)) ∙ ap noMessage e
+  read-none : (l : Layout) (s : List ℕ) (k step : ℕ) → Bytes s → readOf l s ≡ refused (suc k) step → R .read l s ≡ noMessage (suc k)
+  read-none l s k step b h =
+      let e : readOf l s .number ≡ suc k = ap (λ (a : Answer). a .number) h in
+      read-refused l s b (λ z. suc-ne-zero k (sym e ∙ z)) ∙ ap noMessage e
 
   -- a message that is given byte by byte, and bytes after it
-  read-one : (s : List ℕ) (m : Message) → WellFormed m → encode m ≡ s → all (λ x. ltb x 256) s ≡ true → R .read s ≡ oneMessage m
-  read-one s m w e b = read-as s (oneMessage m) (bytes-below s b) (one m w e)
+  read-one : (l : Layout) (s : List ℕ) (m : Message) → WellFormed l m → encode l m ≡ s → all (λ x. ltb x 256) s ≡ true → R .read l s ≡ oneMessage m
+  read-one l s m w e b = read-as l s (oneMessage m) (bytes-below s b) (one m w e)
 
-  read-left : (s : List ℕ) (m : Message) (x : ℕ) (r : List ℕ) → WellFormed m → encode m ≡ s → all (λ y. ltb y 256) (s ++ (x ∷ r)) ≡ true
-      → R .read (s ++ (x ∷ r)) ≡ leftOver
-  read-left s m x r w e b = read-as (s ++ (x ∷ r)) leftOver (bytes-below (s ++ (x ∷ r)) b) (left s m w e x r)
+  read-left : (l : Layout) (s : List ℕ) (m : Message) (x : ℕ) (r : List ℕ) → WellFormed l m → encode l m ≡ s → all (λ y. ltb y 256) (s ++ (x ∷ r)) ≡ true
+      → R .read l (s ++ (x ∷ r)) ≡ leftOver
+  read-left l s m x r w e b = read-as l (s ++ (x ∷ r)) leftOver (bytes-below (s ++ (x ∷ r)) b) (left l s m w e x r)
 
-  reads : Read R
+  reads : (l : Layout) → Read R l
   unfolding all
-  reads =
+  reads l =
       record {
-        short = read-none (take 57 armBytes) 0 0 (bytes-below (take 57 armBytes) refl) (message.examples .p4 (take 57 armBytes) refl);
-        damaged = read-none damagedBytes 4 106 (bytes-below damagedBytes refl) (samples .arm .damaged);
-        every-refusal = read-refused;
-        more = read-left armBytes armMessage 7 [] (samples .arm .well) (samples .arm .bytes) refl;
-        zero-more = read-left armBytes armMessage 0 [] (samples .arm .well) (samples .arm .bytes) refl;
-        message-more = read-left armBytes armMessage 0 (drop 1 zeroBytes) (samples .arm .well) (samples .arm .bytes) refl;
-        other-more = read-left probeBytes probeMessage 7 [] (samples .probe .well) (samples .probe .bytes) refl;
-        arm = read-one armBytes armMessage (samples .arm .well) (samples .arm .bytes) refl;
-        probe = read-one probeBytes probeMessage (samples .probe .well) (samples .probe .bytes) refl;
-        point = read-one pointBytes pointMessage (samples .point .well) (samples .point .bytes) refl;
+        short = read-none l (take 57 armBytes) 0 0 (bytes-below (take 57 armBytes) refl) (message.examples .p4 l (take 57 armBytes) refl);
+        damaged = read-none l damagedBytes 4 106 (bytes-below damagedBytes refl) (samples .arm l .damaged);
+        every-refusal = read-refused l;
+        more = read-left l armBytes armMessage 7 [] (samples .arm l .well) (samples .arm l .bytes) refl;
+        zero-more = read-left l armBytes armMessage 0 [] (samples .arm l .well) (samples .arm l .bytes) refl;
+        message-more = read-left l armBytes armMessage 0 (drop 1 zeroBytes) (samples .arm l .well) (samples .arm l .bytes) refl;
+        other-more = read-left l (probeBytes l) probeMessage 7 [] (samples .probe l .well) (samples .probe l .bytes) (probe-more l);
+        arm = read-one l armBytes armMessage (samples .arm l .well) (samples .arm l .bytes) refl;
+        probe = read-one l (probeBytes l) probeMessage (samples .probe l .well) (samples .probe l .bytes) (probe-bytes l);
+        point = read-one l (pointBytes l) pointMessage (samples .point l .well) (samples .point l .bytes) (point-bytes l);
+        other-point = read-none (otherThan l) (pointBytes l) 5 109 (bytes-below (pointBytes l) (point-bytes l)) (samples .other-point l);
       }
 
   on-books : OnBooks R
   unfolding allowedFault isAllowed clockFault same any isText all summaryOf
   on-books =
-      let r = reads in
+      let r = reads New in
+      let o = reads Old in
       record {
         fifteen = refl;
         sixteen = refl;
@@ -85,11 +105,13 @@ module _ (R : Reader) where
         links = refl;
         links-down = refl;
         messages-up = rw (r .short, r .damaged, r .more, r .other-more, r .probe, r .arm) refl;
-        messages-refused = λ ts s b z. rw (r .every-refusal s b z) refl;
+        messages-refused = λ l ts s b z. rw (reads l .every-refusal s b z) refl;
         messages-down = refl;
+        messages-none = refl;
         messages-unknown = rw (r .arm) refl;
         messages-named = rw (r .arm) refl;
         messages-point = rw (r .point) refl;
+        messages-layout = rw (r .point, r .other-point, o .point, o .other-point) refl;
         messages-last = rw (r .arm) refl;
         looks = refl;
         wide-looks = refl;
@@ -102,6 +124,7 @@ module _ (R : Reader) where
         refused = rw (r .damaged, r .more, r .probe) refl;
         refused-full = refl;
         refused-down = refl;
+        switched = refl;
         arm = rw (r .arm) refl;
         after = rw (r .arm) refl;
         gaps = rw (r .arm) refl;
@@ -115,7 +138,7 @@ books =
     record {
       fresh = refl;
       calls = (tt, (tt, (bytes-below armBytes refl, (tt, (tt, tt)))));
-      any-calls = λ type name bytes h t i b. (tt, (tt, (tt, (b, (tt, tt)))));
+      any-calls = λ type name bytes h t i l b. (tt, (tt, (tt, (b, (tt, tt)))));
       counting = refl;
       not-counting = refl;
       value = refl;

@@ -1,14 +1,15 @@
 -- The calls on a panel, with whatever bytes, clocks and numbers they carry; what the book notes of them; and what they answer.
 use Prim.Native.Nat.{ℕ, _-_, _≤_}
 use mathlib.Core.Path.{_≡_}
-use mathlib.Core.Bool.{Bool, true, false}
 use mathlib.Core.List.{List, _++_}
+use mathlib.Core.Option.{Option, none, some}
 use lib.ListN.{length, take, replicate}
 use Rattle.fields.specs.Bytes.{Bytes}
+use Rattle.message.specs.declared.Layout.{Layout}
 
 pub data Call : Type 0 where
   add : (typeText name : List ℕ) (holdTime : ℕ) → Call
-  linkUp : (clock : ℕ) → Call
+  linkUp : (layout : Layout) (clock : ℕ) → Call
   linkDown : (clock : ℕ) → Call
   message : (clock : ℕ) (bytes : List ℕ) → Call
   look : (tile clock : ℕ) → Call
@@ -21,14 +22,14 @@ pub record Entry : Type 0 where
   pub name : List ℕ
   pub holdTime : ℕ
 
--- whether the link is up, and the clock (rule 7.6)
+-- whether the link is up, and then the layout that the link call named (rule 7.11); the clock (rule 7.6)
 pub record Link : Type 0 where
-  pub up : Bool
+  pub up : Option Layout
   pub clock : ℕ
 
 -- the link with another clock
 abbrev pub atClock : ℕ → Link → Link
-atClock t l = record { up = l .up; clock = t }
+atClock t k = record { up = k .up; clock = t }
 
 -- a new tile; the link as it is from then on; a message, which counts; nothing
 pub data Note : Type 0 where
@@ -39,14 +40,14 @@ pub data Note : Type 0 where
 
 abbrev pub noteOf : Call → Note
 noteOf (add t n h) = adding (record { typeText = t; name = n; holdTime = h })
-noteOf (linkUp t) = linking (record { up = true; clock = t })
-noteOf (linkDown t) = linking (record { up = false; clock = t })
+noteOf (linkUp l t) = linking (record { up = some l; clock = t })
+noteOf (linkDown t) = linking (record { up = none; clock = t })
 noteOf (message t s) = receiving t s
 noteOf (look i t) = nothing
 
 abbrev pub BytesIn : Note → Type 0
 BytesIn (adding e) = Unit {0}
-BytesIn (linking l) = Unit {0}
+BytesIn (linking k) = Unit {0}
 BytesIn (receiving t s) = Bytes s
 BytesIn nothing = Unit {0}
 

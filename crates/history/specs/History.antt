@@ -12,7 +12,7 @@ use Rattle.message.specs.Message.{Message}
 use Rattle.history.specs.Calls.{Call, add, linkUp, linkDown, message, look, Entry, Link, linking, receiving, noteOf, Colour, green, grey, Answer, refused, accepted, added, empty, shown}
 use Rattle.history.specs.Places.{passes, firstFree}
 use Rattle.history.specs.Reading.{oneMessage, Reader}
-use Rattle.history.specs.Summary.{Summary, tileAt, carries, numberOn, summaryOf}
+use Rattle.history.specs.Summary.{Summary, tileAt, carries, readOn, numberOn, summaryOf}
 
 abbrev pub callAt : List Call → ℕ → Call
 callAt cs k = getD cs k (look 0 0)
@@ -38,12 +38,12 @@ module _ (R : Reader) where
   abbrev pub summaryBefore : List Call → ℕ → Summary
   summaryBefore cs k = summaryOf R (take k cs)
 
-  -- the call c, where the book is b, has that clock and bytes that are the message m; it counts, and the book already has a tile i of its
-  -- name and type (rule 7.9)
+  -- the call c, where the book is b, has that clock and bytes that are the message m in the layout of the link; it counts, and the book
+  -- already has a tile i of its name and type (rule 7.9)
   pub record CountsFor (b : Summary) (c : Call) (i clock : ℕ) (m : Message) : Type 0 where
     pub bytes : List ℕ
     pub is : noteOf c ≡ receiving clock bytes
-    pub read : R .read bytes ≡ oneMessage m
+    pub read : readOn R (b .link .up) bytes ≡ oneMessage m
     pub counts : numberOn R b c ≡ 0
     pub carried : passes (carries m) (tileAt b i) ≡ true
 
@@ -106,7 +106,7 @@ module _ (R : Reader) where
   -- what a call answers that is not refused; an add, the smallest number that no tile has
   abbrev pub Accepted : List Call → Call → Answer → Type 0
   Accepted cs (add t n h) a = a ≡ added (firstFree (summaryOf R cs .tiles))
-  Accepted cs (linkUp t) a = a ≡ accepted
+  Accepted cs (linkUp l t) a = a ≡ accepted
   Accepted cs (linkDown t) a = a ≡ accepted
   Accepted cs (message t s) a = a ≡ accepted
   Accepted cs (look i now) a = Shown cs i now a

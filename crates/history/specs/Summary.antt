@@ -1,9 +1,9 @@
 -- The book (rule 7.8): the tiles, the link and the clock that the calls so far amount to. It is computed from the calls and not from the
 -- panel, and keeps neither values nor colours.
 use Prim.Native.Nat.{ℕ}
-use mathlib.Core.Bool.{Bool, false, cond, _&&_, _||_}
+use mathlib.Core.Bool.{Bool, cond, _&&_, _||_}
 use mathlib.Core.List.{List, [], foldl}
-use mathlib.Core.Option.{Option}
+use mathlib.Core.Option.{Option, none, some}
 use lib.Dec.{eqb, leb, ltb}
 use lib.ListN.{length}
 use Rattle.fields.specs.Bytes.{same}
@@ -12,6 +12,7 @@ use Rattle.fields.specs.Text.{isText}
 use Rattle.fields.specs.Checks.{orElse}
 use Rattle.content.specs.Kinds.{transformText, positionText}
 use Rattle.content.specs.Tree.{typeText}
+use Rattle.message.specs.declared.Layout.{Layout}
 use Rattle.message.specs.Message.{Message}
 use Rattle.history.specs.Calls.{Call, add, linkUp, linkDown, message, look, Entry, Link, atClock, Note, adding, linking, receiving, nothing, noteOf}
 use Rattle.history.specs.Places.{placeAt, passes, isThere, filled, countOf}
@@ -23,7 +24,7 @@ pub record Summary : Type 0 where
   pub link : Link
 
 abbrev pub freshSummary : Summary
-freshSummary = record { tiles = []; link = record { up = false; clock = 0 } }
+freshSummary = record { tiles = []; link = record { up = none; clock = 0 } }
 
 -- ---- tiles
 
@@ -86,19 +87,24 @@ readingNumber ts (oneMessage m) = cond (countsOn ts m) 0 13
 
 abbrev pub noted : Summary → Note → Summary
 noted b (adding e) = record { tiles = filled e (b .tiles); link = b .link }
-noted b (linking l) = record { tiles = b .tiles; link = l }
+noted b (linking k) = record { tiles = b .tiles; link = k }
 noted b (receiving t s) = record { tiles = b .tiles; link = atClock t (b .link) }
 noted b nothing = b
 
 module _ (R : Reader) where
+  -- what bytes are on a link: while it is down they are not read, which is check 14; else they are read in its layout (rule 7.11)
+  abbrev pub readOn : Option Layout → List ℕ → Reading
+  readOn none s = noMessage 14
+  readOn (some l) s = R .read l s
+
   -- the number that a call's checks on the book give (rules 7.3 to 7.7), where it is given whether all places for tiles are taken. 0 means
   -- that the call is accepted; a message then counts
   abbrev pub numberBy : Bool → Summary → Call → ℕ
   numberBy full b (add t n h) = orElse (allowedFault t n h) (orElse (cond (any (passes (isOf t n)) (b .tiles)) 17 0) (cond full 18 0))
-  numberBy full b (linkUp t) = clockFault (b .link .clock) t
+  numberBy full b (linkUp l t) = clockFault (b .link .clock) t
   numberBy full b (linkDown t) = clockFault (b .link .clock) t
   numberBy full b (message t s) =
-      orElse (clockFault (b .link .clock) t) (orElse (cond (b .link .up) 0 14) (readingNumber (b .tiles) (R .read s)))
+      orElse (clockFault (b .link .clock) t) (readingNumber (b .tiles) (readOn (b .link .up) s))
   numberBy full b (look i t) = orElse (tileFault (tileAt b i)) (clockFault (b .link .clock) t)
 
   -- they are taken where this book has as many tiles as there may be

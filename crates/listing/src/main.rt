@@ -1,10 +1,12 @@
-// Lists what the reader answers to a stream of messages (rule 8.3). It reads at most 65,536 bytes from its standard input, and prints a
-// line for each answer from the front on: the place, the number and the step, in decimal digits. It ends after a step of 0.
+// Lists what the reader answers to a stream of messages in the new layout (rules 3.6 and 8.3). It reads at most 65,536 bytes from its standard
+// input, and prints a line for each answer from the front on: the place, the number and the step, in decimal digits. It ends after a step of 0.
 use libc::STDIN_FILENO;
 use libc::STDOUT_FILENO;
 use message::Answer;
+use message::Layout;
 ghost use mathlib.Core.Path.{_≡_};
 ghost use lib.ListN.{drop};
+ghost use Rattle.message.specs.declared.Layout.the-variants.{New};
 ghost use Rattle.message.specs.Check.{readOf};
 
 fn print_line(at: usize, answer: Answer) {
@@ -18,9 +20,9 @@ fn print_line(at: usize, answer: Answer) {
 
 // Prints the answer at a place, and gives its step.
 fn list_at(stream: &[u8], at: usize) -> usize
-    ensures { λ r. ⌜ r ≡ readOf (drop at (now (stream .entry))) .step ⌝ }
+    ensures { λ r. ⌜ r ≡ readOf New (drop at (now (stream .entry))) .step ⌝ }
 {
-    let answer = message::read(fields::slice::rest(stream, at));
+    let answer = message::read(Layout::New, fields::slice::rest(stream, at));
     print_line(at, answer);
     answer.step
 }

@@ -18,8 +18,10 @@ use Rattle.header.specs.Header.{Header, encodeHeader}
 use Rattle.metadata.specs.Metadata.{absent, encodeMetadata, WellMetadata}
 use Rattle.content.specs.Tree.{other, Opaque}
 use Rattle.content.specs.Tree as tree
-use Rattle.message.specs.Body.{encodeBody}
-use Rattle.message.specs.Message.{Message, Parts, partsOf, bodyOf, encodeParts, encode, WellFormed}
+use Rattle.message.specs.declared.Layout.{Layout}
+use Rattle.message.specs.declared.Layout.the-variants.{New, Old}
+use Rattle.message.specs.Body.{encodeBody, MetadataFits}
+use Rattle.message.specs.Message.{Message, Parts, messageBody, encodeWith, encode}
 use Rattle.message.specs.Check.{refused, readOf}
 use Rattle.message.specs.Demand2.{Begins}
 use Rattle.message.specs.Numbers.{Whole}
@@ -55,14 +57,24 @@ status-text : isText getStatusText ≡ true
 unfolding isText all
 status-text = refl
 
-status-body : (n : List ℕ) (stamp id : ℕ) → bodyOf (partsOf (status n stamp id)) ≡ body12 id
+status-body : (l : Layout) (n : List ℕ) (stamp id : ℕ) → messageBody l (status n stamp id) ≡ body12 l id
 unfolding status encodeBody encodeMetadata tree.encode beBytes
-status-body n stamp id = refl
+status-body New n stamp id = refl
+status-body Old n stamp id = refl
 
-status-begins : (n : List ℕ) (stamp id : ℕ) → Text n → length n ≤ 20 → stamp < 256 ^ 8 → id < 256 ^ 4
-    → Begins (ofVersion2 getStatusText n stamp (body12 id)) (status n stamp id)
-unfolding status encodeMetadata WellMetadata tree.encode tree.WellFormed encodeParts beBytes
-status-begins n stamp id t l s i =
+status-length : (l : Layout) (id : ℕ) → length (body12 l id) ≡ 12
+unfolding beBytes
+status-length New id = refl
+status-length Old id = refl
+
+no-metadata-fits : (l : Layout) → MetadataFits l 0 0
+no-metadata-fits New = (omega arith, omega arith, omega arith)
+no-metadata-fits Old = omega arith
+
+status-begins : (l : Layout) (n : List ℕ) (stamp id : ℕ) → Text n → length n ≤ 20 → stamp < 256 ^ 8 → id < 256 ^ 4
+    → Begins l (ofVersion2 getStatusText n stamp (body12 l id)) (status n stamp id)
+unfolding status encodeMetadata WellMetadata tree.encode tree.WellFormed encodeWith beBytes
+status-begins l n stamp id t o s i =
     record {
       well =
           record {
@@ -71,35 +83,43 @@ status-begins n stamp id t l s i =
                   type-text = is-text getStatusText status-text;
                   type-fits = omega arith;
                   name-text = t;
-                  name-fits = l;
+                  name-fits = o;
                 };
             stamp-fits = s;
-            sections = inr (refl, record { id-fits = i; further-bytes = bytes-nil; further-fits = omega arith; metadata-fits = omega arith });
+            sections =
+                inr (refl, record { id-fits = i; further-bytes = bytes-nil; further-fits = omega arith; metadata-fits = no-metadata-fits l });
             content = (opaque, bytes-nil);
             metadata = tt;
-            size-limit = omega (arith, ap length (status-body n stamp id));
+            size-limit = omega (arith, ap length (status-body l n stamp id), status-length l id);
           };
       rest = [];
-      bytes = append-nil (encode (status n stamp id)) ∙ ap (λ (b : List ℕ). encodeHeader (headerOfVersion2 getStatusText n stamp b) ++ b) (status-body n stamp id) ∙ front getStatusText n stamp (body12 id);
+      bytes =
+          append-nil (encode l (status n stamp id))
+          ∙ ap (λ (b : List ℕ). encodeHeader (headerOfVersion2 getStatusText n stamp b) ++ b) (status-body l n stamp id)
+          ∙ front getStatusText n stamp (body12 l id);
     }
 
-p5 : (n : List ℕ) (stamp id : ℕ) → Text n → length n ≤ 20 → stamp < 256 ^ 8 → id < 256 ^ 4
-    → Accepted70 (ofVersion2 getStatusText n stamp (body12 id))
-unfolding status tree.encode beBytes
-p5 n stamp id t l s i =
-    let b = status-begins n stamp id t l s i in
+p5 : (l : Layout) (n : List ℕ) (stamp id : ℕ) → Text n → length n ≤ 20 → stamp < 256 ^ 8 → id < 256 ^ 4
+    → Accepted70 l (ofVersion2 getStatusText n stamp (body12 l id))
+unfolding status tree.encode
+p5 l n stamp id t o s i =
+    let b = status-begins l n stamp id t o s i in
     let m : Message = status n stamp id in
     record {
-      number = demand-2 .begun _ m b;
-      step = demand-2 .step _ m b ∙ demand-2 .size m ∙ ap (λ (x : List ℕ). 58 + length x) (status-body n stamp id);
-      content = ap (λ (p : Parts). p .sections .content) (demand-2 .handed-out _ m b);
+      number = demand-2 l .begun _ m b;
+      step =
+          demand-2 l .step _ m b
+          ∙ demand-2 l .size m
+          ∙ ap (λ (x : List ℕ). 58 + length x) (status-body l n stamp id)
+          ∙ ap (λ (k : ℕ). 58 + k) (status-length l id);
+      content = ap (λ (p : Parts). p .sections .content) (demand-2 l .handed-out _ m b);
     }
 
 -- ---- P6
 
-p6 : (t n : List ℕ) (stamp : ℕ) (b : List ℕ) → Text t → length t ≤ 12 → Text n → length n ≤ 20 → stamp < 256 ^ 8 → Bytes b → length b ≡ 11
-    → readOf (ofVersion2 t n stamp b) ≡ refused 6 69
-p6 t n stamp b tt′ tl nt nl s bs l =
+p6 : (l : Layout) (t n : List ℕ) (stamp : ℕ) (b : List ℕ) → Text t → length t ≤ 12 → Text n → length n ≤ 20 → stamp < 256 ^ 8 → Bytes b → length b ≡ 11
+    → readOf l (ofVersion2 t n stamp b) ≡ refused 6 69
+p6 l t n stamp b tt′ tl nt nl s bs e =
     let h : Header = headerOfVersion2 t n stamp b in
     let w : Whole (ofVersion2 t n stamp b) h b =
     record {
@@ -120,9 +140,9 @@ p6 t n stamp b tt′ tl nt nl s bs l =
       rest = [];
       front = ap (λ (x : List ℕ). encodeHeader h ++ x) (append-nil b) ∙ front t n stamp b;
     } in
-    refusals .extended (ofVersion2 t n stamp b) h b w (record { version = inr refl; crc = refl }) refl (inl (omega arith))
-    ∙ ap (λ (k : ℕ). refused 6 (58 + k)) l
+    refusals l .extended (ofVersion2 t n stamp b) h b w (record { version = inr refl; crc = refl }) refl (inl (omega arith))
+    ∙ ap (λ (k : ℕ). refused 6 (58 + k)) e
 
 pub examples : Examples
 unfolding encodeBody beBytes
-examples = record { p4 = λ s h. refusals .short s (omega arith); p5 = p5; p6 = p6; body = refl }
+examples = record { p4 = λ l s h. refusals l .short s (omega arith); p5 = p5; p6 = p6; body-new = refl; body-old = refl }

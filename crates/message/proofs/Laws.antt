@@ -1,4 +1,5 @@
 pub mod Below
+pub mod Layout
 pub mod Body
 pub mod Stream
 pub mod Read
@@ -6,3 +7,4 @@ pub mod Front
 pub mod Writer
 pub mod Messages
 pub mod Numbers
+pub mod Both

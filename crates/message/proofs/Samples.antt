@@ -13,7 +13,7 @@ use Rattle.crc64.specs.Crc.{bitStep, run, bitAt, bitsOf, bits, crcOf}
 use Rattle.header.specs.Header.{encodeHeader}
 use Rattle.header.specs.Check.{headerOf, shortFault, textsFault, limitFault, headerFault, namesFault}
 use Rattle.metadata.specs.Metadata.{WellEntry, entryHeader, entryData, encodeMetadata, WellMetadata}
-use Rattle.metadata.specs.Check.{entryOk, entriesOk, sectionOk, metadataFault}
+use Rattle.metadata.specs.Check.{entryOk, entriesOk, sectionOk, metadataFault, indexIn}
 use Rattle.pose.specs.Words.{wordBytes}
 use Rattle.pose.specs.Transform.{transformFault}
 use Rattle.pose.specs.Position.{six, wordsIn, positionFault}
@@ -22,13 +22,16 @@ use Rattle.content.specs.Check.{contentFault}
 use Rattle.content.specs.Tree as tree
 use Rattle.content.proofs.Examples as content
 use Rattle.content.specs.Tree.{Opaque}
-use Rattle.message.specs.Body.{encodeBody}
-use Rattle.message.specs.Message.{encodeParts, encode, WellFormed}
-use Rattle.message.specs.Check.{extendedOk, bodyFault, placesOf, wholeFault, versionFault, crcFault, sectionsFault, bodyChecks, frontFault, numberOf, stepOf, readOf}
+use Rattle.message.specs.declared.Layout.{Layout}
+use Rattle.message.specs.declared.Layout.the-variants.{New, Old}
+use Rattle.message.specs.Layouts.{layoutOf}
+use Rattle.message.specs.Body.{encodeBody, MetadataFits}
+use Rattle.message.specs.Message.{encodeWith, WellFormed}
+use Rattle.message.specs.Check.{extendedOk, bodyFault, sizesFault, placesOf, wholeFault, versionFault, crcFault, sectionsFault, foundFault, bodyChecks, frontFault, numberOf, stepOf, readOf, refused}
 use Rattle.message.specs.Writer.{fits, fitFault, sectionsChecks, writeChecks, writeFault, messageWritten, messageOut}
 use Rattle.message.proofs.Laws.Below.{each-below, bytes-below}
 use Rattle.fields.proofs.Laws.Text.{is-text}
-use Rattle.message.specs.Samples.{armMessage, armWords, statusText, probeText, probeMessage, pointText, pointWords, pointMessage, Samples}
+use Rattle.message.specs.Samples.{armMessage, armWords, statusText, probeText, probeMessage, pointText, pointWords, pointMessage, ProbeSample, PointSample, otherThan, probeBytes, pointBytes, Samples}
 
 opaque : Opaque statusText
 opaque =
@@ -39,9 +42,9 @@ opaque =
       no-bind = λ e. let z : _≡_ {A = ℕ} 83 66 = cc in omega arith;
     }
 
-arm-well : WellFormed armMessage
+arm-well : (l : Layout) → WellFormed l armMessage
 unfolding encodeMetadata WellMetadata tree.WellFormed tree.encode encodeBody wordBytes flat beBytes isText all
-arm-well =
+arm-well l =
     record {
       texts =
           record {
@@ -69,9 +72,13 @@ entry-well =
       value-fits = omega arith;
     }
 
-probe-well : WellFormed probeMessage
+metadata-13 : (l : Layout) → MetadataFits l 10 13
+metadata-13 New = (omega arith, omega arith, omega arith)
+metadata-13 Old = omega arith
+
+probe-well : (l : Layout) → WellFormed l probeMessage
 unfolding encodeMetadata entryHeader entryData WellMetadata tree.WellFormed tree.encode encodeBody flat beBytes isText all
-probe-well =
+probe-well l =
     record {
       texts =
           record { type-text = is-text statusText refl; type-fits = omega arith; name-text = is-text probeText refl; name-fits = omega arith };
@@ -83,7 +90,7 @@ probe-well =
               id-fits = omega arith;
               further-bytes = bytes-below (probeMessage .further) refl;
               further-fits = omega arith;
-              metadata-fits = omega arith;
+              metadata-fits = metadata-13 l;
             },
           );
       content = (opaque, bytes-below (0x41 ∷ 0x42 ∷ 0x43 ∷ []) refl);
@@ -91,9 +98,9 @@ probe-well =
       size-limit = omega arith;
     }
 
-point-well : WellFormed pointMessage
+point-well : (l : Layout) → WellFormed l pointMessage
 unfolding encodeMetadata entryHeader entryData WellMetadata tree.WellFormed tree.encode encodeBody wordBytes flat beBytes isText all
-point-well =
+point-well l =
     record {
       texts =
           record { type-text = is-text positionText refl; type-fits = omega arith; name-text = is-text pointText refl; name-fits = omega arith };
@@ -105,7 +112,7 @@ point-well =
               id-fits = omega arith;
               further-bytes = bytes-below (pointMessage .further) refl;
               further-fits = omega arith;
-              metadata-fits = omega arith;
+              metadata-fits = metadata-13 l;
             },
           );
       content = record { count = six; words = each-below (256 ^ 4) pointWords refl };
@@ -113,81 +120,42 @@ point-well =
       size-limit = omega arith;
     }
 
+-- what holds in each layout
+pub by-layout : (P : Layout → Type 0) → P New → P Old → (l : Layout) → P l
+by-layout P n o New = n
+by-layout P n o Old = o
+
 pub samples : Samples
-unfolding encodeParts encodeHeader encodeBody encodeMetadata entryHeader entryData tree.encode wordBytes flat beBytes textBytes sized crcOf bits bitsOf bitAt run bitStep readOf numberOf stepOf frontFault bodyChecks sectionsFault crcFault versionFault wholeFault placesOf bodyFault extendedOk contentFault kindOf transformFault positionFault wordsIn metadataFault sectionOk entriesOk entryOk headerOf shortFault textsFault limitFault headerFault beVal textOf pastText allZero textOk textClean fieldOk isText all same messageWritten messageOut writeFault writeChecks sectionsChecks fitFault fits namesFault writtenOf roomFault outAfter
+unfolding encodeWith encodeHeader encodeBody encodeMetadata entryHeader entryData tree.encode wordBytes flat beBytes textBytes sized crcOf bits bitsOf bitAt run bitStep readOf numberOf stepOf frontFault bodyChecks foundFault sizesFault sectionsFault crcFault versionFault wholeFault placesOf bodyFault extendedOk contentFault kindOf transformFault positionFault wordsIn metadataFault sectionOk entriesOk entryOk indexIn headerOf shortFault textsFault limitFault headerFault beVal textOf pastText allZero textOk textClean fieldOk isText all same messageWritten messageOut writeFault writeChecks sectionsChecks fitFault fits namesFault writtenOf roomFault outAfter layoutOf
 samples =
     record {
-      arm =
-          record {
-            well = arm-well;
-            bytes = refl;
-            read = refl;
-            read-more = refl;
-            cut-short = refl;
-            damaged = refl;
-            version-3 = refl;
-            type-in = refl;
-            name-in = refl;
-            further-in = refl;
-            content-in = refl;
-            metadata-in = refl;
-            written = refl;
-            out = refl;
-          };
+      numbers = refl;
+      arm = λ l. record { well = arm-well l; bytes = refl; read = refl; read-more = refl; damaged = refl; changed = refl; parts = refl; written = refl; out = refl };
       probe =
-          record {
-            well = probe-well;
-            bytes = refl;
-            read = refl;
-            read-more = refl;
-            cut-short = refl;
-            damaged = refl;
-            version-3 = refl;
-            type-in = refl;
-            name-in = refl;
-            further-in = refl;
-            content-in = refl;
-            metadata-in = refl;
-            written = refl;
-            out = refl;
-          };
+          by-layout ProbeSample
+          (record { well = probe-well New; bytes = refl; read = refl; read-more = refl; damaged = refl; changed = refl; parts = refl; written = refl; out = refl })
+          (record { well = probe-well Old; bytes = refl; read = refl; read-more = refl; damaged = refl; changed = refl; parts = refl; written = refl; out = refl });
       point =
-          record {
-            well = point-well;
-            bytes = refl;
-            read = refl;
-            read-more = refl;
-            cut-short = refl;
-            damaged = refl;
-            version-3 = refl;
-            type-in = refl;
-            name-in = refl;
-            further-in = refl;
-            content-in = refl;
-            metadata-in = refl;
-            written = refl;
-            out = refl;
-          };
-      zeros = refl;
-      position-12 = refl;
-      position-28 = refl;
-      nothing = refl;
-      front = refl;
-      version-crc = refl;
-      crc-left-out = refl;
-      reserved-bytes = refl;
-      wide-sizes = refl;
-      extended = refl;
-      sections = refl;
+          by-layout PointSample
+          (record { well = point-well New; bytes = refl; read = refl; read-more = refl; damaged = refl; changed = refl; parts = refl; written = refl; out = refl })
+          (record { well = point-well Old; bytes = refl; read = refl; read-more = refl; damaged = refl; changed = refl; parts = refl; written = refl; out = refl });
+      other-probe = by-layout (λ l. readOf (otherThan l) (probeBytes l) ≡ refused 6 88) refl refl;
+      other-point = by-layout (λ l. readOf (otherThan l) (pointBytes l) ≡ refused 6 109) refl refl;
+      zeros = λ l. refl;
+      position-12 = λ l. refl;
+      position-28 = λ l. refl;
+      nothing = λ l. refl;
+      front = λ l. refl;
+      version-crc = λ l. refl;
+      crc-left-out = λ l. refl;
       levels = ap₂ {C = List ℕ} (λ a b. a ∷ b ∷ []) (content.examples .level-4) (content.examples .level-5);
-      names = refl;
+      names = λ l. refl;
       parts = refl;
-      size-fields = refl;
-      largest = λ c e. rw e refl;
+      largest = λ l c e. rw e refl;
       largest-extended = λ c e. rw (append-nil c, e) refl;
-      too-large = λ c e. (rw e refl, rw e refl);
-      too-large-extended = λ c e. rw (append-nil c, e) refl;
-      parts-counted = λ c e. (rw (append-nil c, e) refl, rw (append-nil c, e) refl);
-      parts-not-counted = λ c e. (rw (e, fits) refl, rw (e, fits) refl, refl);
-      room = refl;
+      too-large = λ l c e. (rw e refl, rw e refl);
+      too-large-extended = λ l c e. rw (append-nil c, e) refl;
+      parts-counted = λ l c e. (rw (append-nil c, e) refl, rw (append-nil c, e) refl);
+      parts-not-counted = λ l c e. (rw (e, fits) refl, rw (e, fits) refl, refl);
+      room = λ l. refl;
     }

@@ -1,5 +1,5 @@
 -- The body of a message (rules 3.5 to 3.7), its content and metadata being bytes here. Nothing here reads bytes.
-use Prim.Native.Nat.{ℕ, _+_, _^_, _<_}
+use Prim.Native.Nat.{ℕ, _+_, _-_, _^_, _<_, _≤_}
 use mathlib.Core.Path.{_≡_}
 use mathlib.Core.Logic.{_⊎_}
 use mathlib.Core.Bool.{cond}
@@ -9,6 +9,9 @@ use lib.ListN.{length}
 use Rattle.fields.specs.Bytes.{Bytes}
 use Rattle.fields.specs.Numbers.{beBytes}
 use Rattle.fields.specs.Layout.{join}
+use Rattle.message.specs.declared.Layout.{Layout}
+use Rattle.message.specs.declared.Layout.the-variants.{New, Old}
+use Rattle.message.specs.declared.extended.ExtendedNumbers.{ExtendedNumbers}
 
 -- MSG_ID, the further bytes of the extended header, the content, the metadata
 pub record Sections : Type 0 where
@@ -17,21 +20,27 @@ pub record Sections : Type 0 where
   pub content : List ℕ
   pub metadata : List ℕ
 
+-- the numbers after EXT_HEADER_SIZE, for metadata of m bytes whose index has k. In the new layout: METADATA_HEADER_SIZE, METADATA_SIZE,
+-- MSG_ID. In the old: METADATA_SIZE, MSG_ID, reserved
+abbrev pub extendedNumbers : Layout → ℕ → ℕ → ℕ → ExtendedNumbers
+extendedNumbers New k m id = record { second = k; third = m - k; fourth = id }
+extendedNumbers Old k m id = record { second = m; third = id; fourth = 0 }
+
 -- the fields of the extended header, in the order of rule 3.6, and behind them the content and the metadata
-abbrev pub extendedFields : Sections → List (List ℕ)
-extendedFields x =
+abbrev pub extendedFields : Layout → ℕ → Sections → List (List ℕ)
+extendedFields l k x =
     beBytes 2 (12 + length (x .further))
-    ∷ beBytes 2 (length (x .metadata))
-    ∷ beBytes 4 (x .id)
-    ∷ beBytes 4 0
+    ∷ beBytes 2 (extendedNumbers l k (length (x .metadata)) (x .id) .second)
+    ∷ beBytes 4 (extendedNumbers l k (length (x .metadata)) (x .id) .third)
+    ∷ beBytes 4 (extendedNumbers l k (length (x .metadata)) (x .id) .fourth)
     ∷ x .further
     ∷ x .content
     ∷ x .metadata
     ∷ []
 
 -- V 2: all of these. V 1: the content alone
-unfoldable pub encodeBody : ℕ → Sections → List ℕ
-encodeBody version x = cond (eqb version 2) (join (extendedFields x)) (x .content)
+unfoldable pub encodeBody : Layout → ℕ → ℕ → Sections → List ℕ
+encodeBody l version k x = cond (eqb version 2) (join (extendedFields l k x)) (x .content)
 
 -- V 1: there is nothing but the content
 pub record Plain (x : Sections) : Type 0 where
@@ -39,13 +48,18 @@ pub record Plain (x : Sections) : Type 0 where
   pub no-further : x .further ≡ []
   pub no-metadata : x .metadata ≡ []
 
+-- the metadata's sizes fit their fields; in the new layout the index is within the metadata
+abbrev pub MetadataFits : Layout → ℕ → ℕ → Type 0
+MetadataFits New k m = (k ≤ m) × (k < 256 ^ 2) × (m - k < 256 ^ 4)
+MetadataFits Old k m = m < 256 ^ 2
+
 -- V 2: the sections fit their size fields
-pub record Extended (x : Sections) : Type 0 where
+pub record Extended (l : Layout) (k : ℕ) (x : Sections) : Type 0 where
   pub id-fits : x .id < 256 ^ 4
   pub further-bytes : Bytes (x .further)
   pub further-fits : 12 + length (x .further) < 256 ^ 2
-  pub metadata-fits : length (x .metadata) < 256 ^ 2
+  pub metadata-fits : MetadataFits l k (length (x .metadata))
 
--- the sections that a body of this version can have
-abbrev pub WellSections : ℕ → Sections → Type 0
-WellSections version x = ((version ≡ 1) × Plain x) ⊎ ((version ≡ 2) × Extended x)
+-- the sections that a body of this version can have, their metadata's index having k bytes
+abbrev pub WellSections : Layout → ℕ → ℕ → Sections → Type 0
+WellSections l version k x = ((version ≡ 1) × Plain x) ⊎ ((version ≡ 2) × Extended l k x)

@@ -1,6 +1,6 @@
 -- What the reader answers to the front of a byte stream, for any bytes: the number, the step, and where the message's parts stand.
 use Prim.Native.Nat.{ℕ, _+_, _-_}
-use mathlib.Core.Bool.{Bool, cond, _&&_, _||_}
+use mathlib.Core.Bool.{Bool, true, cond, _&&_, _||_}
 use mathlib.Core.List.{List}
 use lib.Dec.{eqb, leb}
 use lib.ListN.{length}
@@ -11,8 +11,10 @@ use Rattle.crc64.specs.Crc.{crcOf}
 use Rattle.header.specs.declared.HeaderRead.{HeaderRead}
 use Rattle.header.specs.Check.{headerOf, headerFault}
 use Rattle.header.specs.Check as header
-use Rattle.metadata.specs.Check.{metadataFault}
+use Rattle.metadata.specs.Check.{indexIn, metadataFault}
 use Rattle.content.specs.Check.{contentFault, deepest}
+use Rattle.message.specs.declared.Layout.{Layout}
+use Rattle.message.specs.declared.Layout.the-variants.{New, Old}
 use Rattle.message.specs.declared.Answer.{Answer}
 use Rattle.message.specs.declared.body.Places.{Places}
 use Rattle.message.specs.Body.{Sections}
@@ -20,35 +22,60 @@ use Rattle.message.specs.Message.{Parts}
 
 -- ---- the sections of a body
 
--- EXT_HEADER_SIZE, and METADATA_SIZE
+-- EXT_HEADER_SIZE
 abbrev pub extendedSize : List ℕ → ℕ
 extendedSize b = beAt 2 0 b
 
-abbrev pub metadataSize : List ℕ → ℕ
-metadataSize b = beAt 2 2 b
+-- METADATA_HEADER_SIZE, which the new layout alone has
+abbrev pub indexAt : List ℕ → ℕ
+indexAt b = beAt 2 2 b
+
+-- how many bytes the metadata has: METADATA_HEADER_SIZE and METADATA_SIZE together, or METADATA_SIZE
+abbrev pub sectionSize : Layout → List ℕ → ℕ
+sectionSize New b = indexAt b + beAt 4 4 b
+sectionSize Old b = beAt 2 2 b
+
+-- MSG_ID
+abbrev pub idAt : Layout → List ℕ → ℕ
+idAt New b = beAt 4 8 b
+idAt Old b = beAt 4 4 b
+
+-- the reserved word, which the old layout alone has, is 0
+abbrev pub reservedOk : Layout → List ℕ → Bool
+reservedOk New b = true
+reservedOk Old b = eqb (beAt 4 8 b) 0
+
+-- check 7 of METADATA_HEADER_SIZE, which the new layout alone has: it is the size of the index of s. METADATA_SIZE is what is left of s
+abbrev pub indexFault : Layout → List ℕ → List ℕ → ℕ
+indexFault New b s = cond (eqb (indexAt b) (indexIn s)) 0 7
+indexFault Old b s = 0
 
 -- check 6, of V 2: the twelve bytes are there, EXT_HEADER_SIZE includes them, the reserved word is 0, and the sizes do not exceed the body
-unfoldable pub extendedOk : List ℕ → Bool
-extendedOk b =
+unfoldable pub extendedOk : Layout → List ℕ → Bool
+extendedOk l b =
     leb 12 (length b)
     && (leb 12 (extendedSize b)
-    && (eqb (beAt 4 8 b) 0
-    && leb (extendedSize b + metadataSize b) (length b)))
+    && (reservedOk l b
+    && leb (extendedSize b + sectionSize l b) (length b)))
 
-unfoldable pub bodyFault : ℕ → List ℕ → ℕ
-bodyFault version b = cond (eqb version 2) (cond (extendedOk b) 0 6) 0
+unfoldable pub bodyFault : Layout → ℕ → List ℕ → ℕ
+bodyFault l version b = cond (eqb version 2) (cond (extendedOk l b) 0 6) 0
+
+-- of V 2 alone
+unfoldable pub sizesFault : Layout → ℕ → List ℕ → List ℕ → ℕ
+sizesFault l version b s = cond (eqb version 2) (indexFault l b s) 0
 
 -- where the sections stand in the body: the content is what the extended header and the metadata leave (rule 3.7)
-abbrev pub extendedPlaces : List ℕ → Places
-extendedPlaces b =
+abbrev pub extendedPlaces : Layout → List ℕ → Places
+extendedPlaces l b =
     record {
-      id = beAt 4 4 b;
+      id = idAt l b;
       «further_at» = 12;
       «further_len» = extendedSize b - 12;
       «content_at» = extendedSize b;
-      «content_len» = length b - (extendedSize b + metadataSize b);
-      «metadata_at» = length b - metadataSize b;
-      «metadata_len» = metadataSize b;
+      «content_len» = length b - (extendedSize b + sectionSize l b);
+      «metadata_at» = length b - sectionSize l b;
+      «metadata_len» = sectionSize l b;
     }
 
 -- V 1: all of the body is content
@@ -64,8 +91,8 @@ plainPlaces b =
       «metadata_len» = 0;
     }
 
-unfoldable pub placesOf : ℕ → List ℕ → Places
-placesOf version b = cond (eqb version 2) (extendedPlaces b) (plainPlaces b)
+unfoldable pub placesOf : Layout → ℕ → List ℕ → Places
+placesOf l version b = cond (eqb version 2) (extendedPlaces l b) (plainPlaces b)
 
 -- the sections at these places
 abbrev pub sectionsAt : Places → List ℕ → Sections
@@ -77,8 +104,8 @@ sectionsAt p b =
       metadata = part (p .«metadata_len») (p .«metadata_at») b;
     }
 
-abbrev pub sectionsOf : ℕ → List ℕ → Sections
-sectionsOf version b = sectionsAt (placesOf version b) b
+abbrev pub sectionsOf : Layout → ℕ → List ℕ → Sections
+sectionsOf l version b = sectionsAt (placesOf l version b) b
 
 -- ---- the checks in order
 
@@ -98,12 +125,16 @@ crcFault crc b = cond (eqb (crcOf b) crc) 0 5
 unfoldable pub sectionsFault : List ℕ → Sections → ℕ
 sectionsFault t x = orElse (metadataFault (x .metadata)) (contentFault deepest t (x .content))
 
+-- of sections x that were found in the body b: first the sizes in b, then these
+unfoldable pub foundFault : Layout → ℕ → List ℕ → List ℕ → Sections → ℕ
+foundFault l version t b x = orElse (sizesFault l version b (x .metadata)) (sectionsFault t x)
+
 -- checks 4 to 11, of a body whose header has this version, CRC and type
-unfoldable pub bodyChecks : ℕ → ℕ → List ℕ → List ℕ → ℕ
-bodyChecks version crc t b =
+unfoldable pub bodyChecks : Layout → ℕ → ℕ → List ℕ → List ℕ → ℕ
+bodyChecks l version crc t b =
     orElse (versionFault version)
     (orElse (crcFault crc b)
-    (orElse (bodyFault version b) (sectionsFault t (sectionsOf version b))))
+    (orElse (bodyFault l version b) (foundFault l version t b (sectionsOf l version b))))
 
 abbrev pub bodyAt : List ℕ → List ℕ
 bodyAt s = part (headerOf s .bodySize) 58 s
@@ -112,8 +143,8 @@ bodyAt s = part (headerOf s .bodySize) 58 s
 unfoldable pub frontFault : List ℕ → ℕ
 frontFault s = orElse (headerFault s) (wholeFault s)
 
-unfoldable pub numberOf : List ℕ → ℕ
-numberOf s = orElse (frontFault s) (bodyChecks (headerOf s .version) (headerOf s .crc) (headerOf s .typeText) (bodyAt s))
+unfoldable pub numberOf : Layout → List ℕ → ℕ
+numberOf l s = orElse (frontFault s) (bodyChecks l (headerOf s .version) (headerOf s .crc) (headerOf s .typeText) (bodyAt s))
 
 -- the step (rule 5.3): the length of the message, but 0 where the number is 1, 2 or 3
 unfoldable pub stepOf : List ℕ → ℕ
@@ -159,9 +190,9 @@ accepted h p =
       «metadata_len» = p .«metadata_len»;
     }
 
-unfoldable pub readOf : List ℕ → Answer
-readOf s =
-    cond (eqb (numberOf s) 0) (accepted (header.handed (headerOf s)) (placesOf (headerOf s .version) (bodyAt s))) (refused (numberOf s) (stepOf s))
+unfoldable pub readOf : Layout → List ℕ → Answer
+readOf l s =
+    cond (eqb (numberOf l s) 0) (accepted (header.handed (headerOf s)) (placesOf l (headerOf s .version) (bodyAt s))) (refused (numberOf l s) (stepOf s))
 
 -- ---- the parts of a stream that an answer names; for an answer that is not this stream's, as many of their bytes as there are
 

@@ -1,14 +1,15 @@
--- A message (section 3 of the rules): its content a tree, its metadata a list of entries; and the bytes that it is written as. Nothing
--- here reads bytes.
+-- A message (section 3 of the rules): its content a tree, its metadata a list of entries; and the bytes that it is written as, in each
+-- layout. Nothing here reads bytes.
 use Prim.Native.Nat.{ℕ, _^_, _<_, _≤_}
 use mathlib.Core.List.{List, _++_}
 use lib.ListN.{length}
 use Rattle.crc64.specs.Crc.{crcOf}
 use Rattle.header.specs.Header.{Header, WellTexts, encodeHeader, limit}
-use Rattle.metadata.specs.Metadata.{Metadata, WellMetadata, encodeMetadata}
+use Rattle.metadata.specs.Metadata.{Metadata, WellMetadata, encodeMetadata, indexSize}
 use Rattle.content.specs.Tree.{Content, typeText}
 use Rattle.content.specs.Tree as tree
 use Rattle.content.specs.Check.{deepest}
+use Rattle.message.specs.declared.Layout.{Layout}
 use Rattle.message.specs.Body.{Sections, WellSections, encodeBody}
 
 -- the type is the content's
@@ -47,33 +48,37 @@ partsOf m =
           };
     }
 
-abbrev pub bodyOf : Parts → List ℕ
-bodyOf p = encodeBody (p .version) (p .sections)
+-- k is the bytes of the metadata's index
+abbrev pub bodyOf : Layout → ℕ → Parts → List ℕ
+bodyOf l k p = encodeBody l (p .version) k (p .sections)
 
 -- BODY_SIZE is the body's length, and CRC that of all its bytes (rule 3.4)
-abbrev pub headerFor : Parts → Header
-headerFor p =
+abbrev pub headerFor : Layout → ℕ → Parts → Header
+headerFor l k p =
     record {
       version = p .version;
       typeText = p .typeText;
       deviceName = p .deviceName;
       timeStamp = p .timeStamp;
-      bodySize = length (bodyOf p);
-      crc = crcOf (bodyOf p);
+      bodySize = length (bodyOf l k p);
+      crc = crcOf (bodyOf l k p);
     }
 
-unfoldable pub encodeParts : Parts → List ℕ
-encodeParts p = encodeHeader (headerFor p) ++ bodyOf p
+unfoldable pub encodeWith : Layout → ℕ → Parts → List ℕ
+encodeWith l k p = encodeHeader (headerFor l k p) ++ bodyOf l k p
 
-abbrev pub encode : Message → List ℕ
-encode m = encodeParts (partsOf m)
+abbrev pub messageBody : Layout → Message → List ℕ
+messageBody l m = bodyOf l (indexSize (m .metadata)) (partsOf m)
+
+abbrev pub encode : Layout → Message → List ℕ
+encode l m = encodeWith l (indexSize (m .metadata)) (partsOf m)
 
 -- ---- what the rules ask of a message
 
-pub record WellFormed (m : Message) : Type 0 where
+pub record WellFormed (l : Layout) (m : Message) : Type 0 where
   pub texts : WellTexts (typeText (m .content)) (m .deviceName)
   pub stamp-fits : m .timeStamp < 256 ^ 8
-  pub sections : WellSections (m .version) (partsOf m .sections)
+  pub sections : WellSections l (m .version) (indexSize (m .metadata)) (partsOf m .sections)
   pub content : tree.WellFormed (m .content) deepest
   pub metadata : WellMetadata (m .metadata)
-  pub size-limit : length (bodyOf (partsOf m)) ≤ limit
+  pub size-limit : length (messageBody l m) ≤ limit

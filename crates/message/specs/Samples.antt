@@ -1,8 +1,7 @@
 -- Whole messages byte by byte, with what the reader answers to them and what the writer makes of their parts; and short inputs, one for
--- each number of the reader and the writer. They fix the order of the fields, the limits and the order of the checks.
+-- each number of the reader and the writer. They fix the order of the fields, the limits and the order of the checks, in both layouts.
 use Prim.Native.Nat.{ℕ, _+_, _-_}
 use mathlib.Core.Path.{_≡_}
-use mathlib.Core.Bool.{true, false}
 use mathlib.Core.List.{List, [], _∷_, _++_, map}
 use lib.ListN.{length, take, drop, replicate}
 use Rattle.fields.specs.declared.Written.{Written}
@@ -15,12 +14,15 @@ use Rattle.metadata.specs.Metadata.{Metadata, absent, section}
 use Rattle.content.specs.Kinds.{transformText, positionText, bindText}
 use Rattle.content.specs.Examples.{noChildren, within}
 use Rattle.content.specs.Tree.{transform, position, other}
+use Rattle.message.specs.declared.Layout.{Layout}
+use Rattle.message.specs.declared.Layout.the-variants.{New, Old}
 use Rattle.message.specs.declared.Answer.{Answer}
 use Rattle.message.specs.declared.FixedFields.{FixedFields}
+use Rattle.message.specs.Layouts.{layoutOf}
 use Rattle.message.specs.Body.{Sections}
 use Rattle.message.specs.Message.{Message, WellFormed, encode}
 use Rattle.message.specs.Check.{sectionsFault, refused, readOf, typeIn, nameIn, furtherIn, contentIn, metadataIn}
-use Rattle.message.specs.Writer.{given, fits, messageWritten, messageOut}
+use Rattle.message.specs.Writer.{given, messageWritten, messageOut}
 
 -- ---- V 1: a TRANSFORM from the device "Arm"
 
@@ -153,19 +155,32 @@ probeMessage =
 abbrev pub probeMetadata : List ℕ
 probeMetadata = 0 ∷ 1 ∷ 0 ∷ 1 ∷ 0x51 ∷ 0x52 ∷ 0 ∷ 0 ∷ 0 ∷ 2 ∷ 75 ∷ 0x61 ∷ 0x62 ∷ []
 
--- V, TYPE, DEVICE_NAME, TIME_STAMP, BODY_SIZE, CRC; EXT_HEADER_SIZE and METADATA_SIZE, MSG_ID, reserved, further bytes; content; metadata
-abbrev pub probeBytes : List ℕ
-probeBytes =
+-- CRC. In the new layout: EXT_HEADER_SIZE and METADATA_HEADER_SIZE, METADATA_SIZE, MSG_ID. In the old: EXT_HEADER_SIZE and METADATA_SIZE,
+-- MSG_ID, reserved
+abbrev pub probeNumbers : Layout → List (List ℕ)
+probeNumbers New =
+    (0x10 ∷ 0x6B ∷ 0x55 ∷ 0x23 ∷ 0x2C ∷ 0xE1 ∷ 0xC1 ∷ 0x49 ∷ [])
+    ∷ (0 ∷ 14 ∷ 0 ∷ 10 ∷ [])
+    ∷ (0 ∷ 0 ∷ 0 ∷ 3 ∷ [])
+    ∷ (0x21 ∷ 0x22 ∷ 0x23 ∷ 0x24 ∷ [])
+    ∷ []
+probeNumbers Old =
+    (0x33 ∷ 0x65 ∷ 0xAF ∷ 0x01 ∷ 0xA9 ∷ 0x13 ∷ 0x2C ∷ 0x66 ∷ [])
+    ∷ (0 ∷ 14 ∷ 0 ∷ 13 ∷ [])
+    ∷ (0x21 ∷ 0x22 ∷ 0x23 ∷ 0x24 ∷ [])
+    ∷ (0 ∷ 0 ∷ 0 ∷ 0 ∷ [])
+    ∷ []
+
+-- V, TYPE, DEVICE_NAME, TIME_STAMP, BODY_SIZE; these numbers; further bytes; content; metadata
+abbrev pub probeBytes : Layout → List ℕ
+probeBytes l =
     join
     ((0 ∷ 2 ∷ [])
     ∷ (83 ∷ 84 ∷ 65 ∷ 84 ∷ 85 ∷ 83 ∷ 0 ∷ 0 ∷ 0 ∷ 0 ∷ 0 ∷ 0 ∷ [])
     ∷ (80 ∷ 114 ∷ 111 ∷ 98 ∷ 101 ∷ 0 ∷ 0 ∷ 0 ∷ 0 ∷ 0 ∷ 0 ∷ 0 ∷ 0 ∷ 0 ∷ 0 ∷ 0 ∷ 0 ∷ 0 ∷ 0 ∷ 0 ∷ [])
     ∷ (0x11 ∷ 0x12 ∷ 0x13 ∷ 0x14 ∷ 0x15 ∷ 0x16 ∷ 0x17 ∷ 0x18 ∷ [])
     ∷ (0 ∷ 0 ∷ 0 ∷ 0 ∷ 0 ∷ 0 ∷ 0 ∷ 30 ∷ [])
-    ∷ (0x33 ∷ 0x65 ∷ 0xAF ∷ 0x01 ∷ 0xA9 ∷ 0x13 ∷ 0x2C ∷ 0x66 ∷ [])
-    ∷ (0 ∷ 14 ∷ 0 ∷ 13 ∷ [])
-    ∷ (0x21 ∷ 0x22 ∷ 0x23 ∷ 0x24 ∷ [])
-    ∷ (0 ∷ 0 ∷ 0 ∷ 0 ∷ [])
+    ∷ join (probeNumbers l)
     ∷ (0x31 ∷ 0x32 ∷ [])
     ∷ (0x41 ∷ 0x42 ∷ 0x43 ∷ [])
     ∷ probeMetadata
@@ -206,19 +221,30 @@ pointContent =
     ∷ (0x6C ∷ 0x6D ∷ 0x6E ∷ 0x6F ∷ 0x70 ∷ 0x71 ∷ 0x72 ∷ 0x73 ∷ 0x74 ∷ 0x75 ∷ 0x76 ∷ 0x77 ∷ [])
     ∷ [])
 
--- V, TYPE, DEVICE_NAME, TIME_STAMP, BODY_SIZE, CRC; EXT_HEADER_SIZE and METADATA_SIZE, MSG_ID, reserved, further bytes; content; metadata
-abbrev pub pointBytes : List ℕ
-pointBytes =
+-- as of the STATUS
+abbrev pub pointNumbers : Layout → List (List ℕ)
+pointNumbers New =
+    (0xCD ∷ 0xAC ∷ 0x11 ∷ 0xEF ∷ 0x85 ∷ 0x13 ∷ 0xD7 ∷ 0x10 ∷ [])
+    ∷ (0 ∷ 14 ∷ 0 ∷ 10 ∷ [])
+    ∷ (0 ∷ 0 ∷ 0 ∷ 3 ∷ [])
+    ∷ (0x41 ∷ 0x42 ∷ 0x43 ∷ 0x44 ∷ [])
+    ∷ []
+pointNumbers Old =
+    (0x97 ∷ 0xA9 ∷ 0x52 ∷ 0x9D ∷ 0xFC ∷ 0x22 ∷ 0xF7 ∷ 0xC0 ∷ [])
+    ∷ (0 ∷ 14 ∷ 0 ∷ 13 ∷ [])
+    ∷ (0x41 ∷ 0x42 ∷ 0x43 ∷ 0x44 ∷ [])
+    ∷ (0 ∷ 0 ∷ 0 ∷ 0 ∷ [])
+    ∷ []
+
+abbrev pub pointBytes : Layout → List ℕ
+pointBytes l =
     join
     ((0 ∷ 2 ∷ [])
     ∷ (80 ∷ 79 ∷ 83 ∷ 73 ∷ 84 ∷ 73 ∷ 79 ∷ 78 ∷ 0 ∷ 0 ∷ 0 ∷ 0 ∷ [])
     ∷ pointText
     ∷ (0x31 ∷ 0x32 ∷ 0x33 ∷ 0x34 ∷ 0x35 ∷ 0x36 ∷ 0x37 ∷ 0x38 ∷ [])
     ∷ (0 ∷ 0 ∷ 0 ∷ 0 ∷ 0 ∷ 0 ∷ 0 ∷ 51 ∷ [])
-    ∷ (0x97 ∷ 0xA9 ∷ 0x52 ∷ 0x9D ∷ 0xFC ∷ 0x22 ∷ 0xF7 ∷ 0xC0 ∷ [])
-    ∷ (0 ∷ 14 ∷ 0 ∷ 13 ∷ [])
-    ∷ (0x41 ∷ 0x42 ∷ 0x43 ∷ 0x44 ∷ [])
-    ∷ (0 ∷ 0 ∷ 0 ∷ 0 ∷ [])
+    ∷ join (pointNumbers l)
     ∷ (0x51 ∷ 0x52 ∷ [])
     ∷ pointContent
     ∷ probeMetadata
@@ -229,22 +255,40 @@ pointAnswer = answerOf 2 70 8 20 0x3132333435363738 0x41424344 2 24 13
 
 -- the message m has the bytes s, and the reader answers a to them, also where more bytes follow; the writer, given these arguments, writes
 -- them, and keeps the bytes beyond
-pub record Sample (m : Message) (s : List ℕ) (a : Answer) (f : FixedFields) (type name further content metadata : List ℕ) : Type 0 where
-  pub well : WellFormed m
-  pub bytes : encode m ≡ s
-  pub read : readOf s ≡ a
-  pub read-more : readOf (s ++ (7 ∷ [])) ≡ a
-  -- without its last byte; with another last byte; as V 3
-  pub cut-short : readOf (take (length s - 1) s) ≡ refused 1 0
-  pub damaged : readOf (take (length s - 1) s ++ (0 ∷ [])) ≡ refused 5 (length s)
-  pub version-3 : readOf (0 ∷ 3 ∷ drop 2 s) ≡ refused 4 (length s)
-  pub type-in : typeIn s a ≡ type
-  pub name-in : nameIn s a ≡ name
-  pub further-in : furtherIn s a ≡ further
-  pub content-in : contentIn s a ≡ content
-  pub metadata-in : metadataIn s a ≡ metadata
-  pub written : messageWritten (given f type name further content metadata) (length s) ≡ Wrote (length s)
-  pub out : messageOut (given f type name further content metadata) (replicate (length s) 255 ++ (7 ∷ [])) ≡ s ++ (7 ∷ [])
+pub record Sample (l : Layout) (m : Message) (s : List ℕ) (a : Answer) (f : FixedFields) (type name further content metadata : List ℕ) : Type 0 where
+  pub well : WellFormed l m
+  pub bytes : encode l m ≡ s
+  pub read : readOf l s ≡ a
+  pub read-more : readOf l (s ++ (7 ∷ [])) ≡ a
+  -- with another last byte; without it; as V 3
+  pub damaged : readOf l (take (length s - 1) s ++ (0 ∷ [])) ≡ refused 5 (length s)
+  pub changed : readOf l (take (length s - 1) s) ∷ readOf l (0 ∷ 3 ∷ drop 2 s) ∷ [] ≡ refused 1 0 ∷ refused 4 (length s) ∷ []
+  pub parts : typeIn s a ∷ nameIn s a ∷ furtherIn s a ∷ contentIn s a ∷ metadataIn s a ∷ [] ≡ type ∷ name ∷ further ∷ content ∷ metadata ∷ []
+  pub written : messageWritten l (given f type name further content metadata) (length s) ≡ Wrote (length s)
+  pub out : messageOut l (given f type name further content metadata) (replicate (length s) 255 ++ (7 ∷ [])) ≡ s ++ (7 ∷ [])
+
+abbrev pub ArmSample : Layout → Type 0
+ArmSample l =
+    Sample l armMessage armBytes armAnswer (record { version = 1; «time_stamp» = 0x0102030405060708; id = 0 })
+    transformText armText [] armContent []
+
+abbrev pub ProbeSample : Layout → Type 0
+ProbeSample l =
+    Sample l probeMessage (probeBytes l) probeAnswer (record { version = 2; «time_stamp» = 0x1112131415161718; id = 0x21222324 })
+    statusText probeText (0x31 ∷ 0x32 ∷ []) (0x41 ∷ 0x42 ∷ 0x43 ∷ []) probeMetadata
+
+abbrev pub PointSample : Layout → Type 0
+PointSample l =
+    Sample l pointMessage (pointBytes l) pointAnswer (record { version = 2; «time_stamp» = 0x3132333435363738; id = 0x41424344 })
+    positionText pointText (0x51 ∷ 0x52 ∷ []) pointContent probeMetadata
+
+-- the two layouts, and of each the other
+abbrev pub layouts : List Layout
+layouts = New ∷ Old ∷ []
+
+abbrev pub otherThan : Layout → Layout
+otherThan New = Old
+otherThan Old = New
 
 -- ---- short streams
 
@@ -261,13 +305,8 @@ streamOf version type crc body =
 abbrev pub soundOf : ℕ → List ℕ → List ℕ → List ℕ
 soundOf version type body = streamOf version type (crcOf body) body
 
--- a body of V 2 with no content: the two sizes, MSG_ID 0, the last byte of the reserved word, and the metadata
-abbrev pub bodyWith : ℕ → ℕ → ℕ → List ℕ → List ℕ
-bodyWith extendedSize metadataSize reserved metadata =
-    0 ∷ extendedSize ∷ 0 ∷ metadataSize ∷ 0 ∷ 0 ∷ 0 ∷ 0 ∷ 0 ∷ 0 ∷ 0 ∷ reserved ∷ metadata
-
-abbrev pub answersTo : List (List ℕ) → List Answer
-answersTo ss = map readOf ss
+abbrev pub answersTo : Layout → List (List ℕ) → List Answer
+answersTo l ss = map (readOf l) ss
 
 -- the sections of V 1 with this content
 abbrev pub contentAlone : List ℕ → Sections
@@ -276,20 +315,20 @@ contentAlone c = record { id = 0; further = []; content = c; metadata = [] }
 -- ---- short writes
 
 -- MSG_ID, further bytes, an empty TRANSFORM, metadata and room
-abbrev pub writes : ℕ → ℕ → List ℕ → List ℕ → ℕ → Written
-writes version id further metadata room =
-    messageWritten (given (record { version = version; «time_stamp» = 0; id = id }) transformText [] further [] metadata) room
+abbrev pub writes : Layout → ℕ → ℕ → List ℕ → List ℕ → ℕ → Written
+writes l version id further metadata room =
+    messageWritten l (given (record { version = version; «time_stamp» = 0; id = id }) transformText [] further [] metadata) room
 
 -- a TYPE and a DEVICE_NAME, and nothing else, in V 3
-abbrev pub writesNames : List ℕ → List ℕ → Written
-writesNames type name = messageWritten (given (record { version = 3; «time_stamp» = 0; id = 0 }) type name [] [] []) 0
+abbrev pub writesNames : Layout → List ℕ → List ℕ → Written
+writesNames l type name = messageWritten l (given (record { version = 3; «time_stamp» = 0; id = 0 }) type name [] [] []) 0
 
 -- a content of the type "A"
-abbrev pub writesContent : ℕ → List ℕ → ℕ → Written
-writesContent version content room =
-    messageWritten (given (record { version = version; «time_stamp» = 0; id = 0 }) (65 ∷ []) [] [] content []) room
+abbrev pub writesContent : Layout → ℕ → List ℕ → ℕ → Written
+writesContent l version content room =
+    messageWritten l (given (record { version = version; «time_stamp» = 0; id = 0 }) (65 ∷ []) [] [] content []) room
 
--- the answer to no bytes
+-- the answer to no bytes, all numbers written out
 abbrev pub noAnswer : Answer
 noAnswer =
     record {
@@ -309,20 +348,22 @@ noAnswer =
     }
 
 pub record Samples : Type 0 where
-  pub arm : Sample armMessage armBytes armAnswer (record { version = 1; «time_stamp» = 0x0102030405060708; id = 0 })
-      transformText armText [] armContent []
-  pub probe : Sample probeMessage probeBytes probeAnswer (record { version = 2; «time_stamp» = 0x1112131415161718; id = 0x21222324 })
-      statusText probeText (0x31 ∷ 0x32 ∷ []) (0x41 ∷ 0x42 ∷ 0x43 ∷ []) probeMetadata
-  pub point : Sample pointMessage pointBytes pointAnswer (record { version = 2; «time_stamp» = 0x3132333435363738; id = 0x41424344 })
-      positionText pointText (0x51 ∷ 0x52 ∷ []) pointContent probeMetadata
-  pub zeros : readOf zeroBytes ≡ zeroAnswer
-  pub position-12 : readOf (positionBytes 12) ≡ positionAnswer 12
-  pub position-28 : readOf (positionBytes 28) ≡ positionAnswer 28
+  -- 1 is the old layout
+  pub numbers : map layoutOf (0 ∷ 1 ∷ 2 ∷ 257 ∷ []) ≡ New ∷ Old ∷ New ∷ New ∷ []
+  pub arm : (l : Layout) → ArmSample l
+  pub probe : (l : Layout) → ProbeSample l
+  pub point : (l : Layout) → PointSample l
+  -- read in the other layout
+  pub other-probe : (l : Layout) → readOf (otherThan l) (probeBytes l) ≡ refused 6 88
+  pub other-point : (l : Layout) → readOf (otherThan l) (pointBytes l) ≡ refused 6 109
+  pub zeros : (l : Layout) → readOf l zeroBytes ≡ zeroAnswer
+  pub position-12 : (l : Layout) → readOf l (positionBytes 12) ≡ positionAnswer 12
+  pub position-28 : (l : Layout) → readOf l (positionBytes 28) ≡ positionAnswer 28
   -- ---- the reader, rule 5.2
   -- no bytes: all but the number is 0
-  pub nothing : readOf [] ≡ noAnswer
+  pub nothing : (l : Layout) → readOf l [] ≡ noAnswer
   -- 57 bytes that are no text field; 2 before 3; 3 before the 1 of the whole; the largest body; no body
-  pub front : answersTo
+  pub front : (l : Layout) → answersTo l
       (take 57 (headOf (0 ∷ 65 ∷ []) 0)
       ∷ headOf (0 ∷ 65 ∷ []) 16777217
       ∷ headOf [] 16777217
@@ -332,7 +373,7 @@ pub record Samples : Type 0 where
       ∷ [])
       ≡ refused 1 0 ∷ refused 2 0 ∷ refused 3 0 ∷ refused 1 0 ∷ refused 1 0 ∷ answerOf1 0 0 0 0 ∷ []
   -- 4 before 5: V 0, 3 and 256 with another CRC; 5 before 6: in V 2 a body of one byte with another CRC
-  pub version-crc : answersTo
+  pub version-crc : (l : Layout) → answersTo l
       (streamOf 0 [] 1 (0 ∷ [])
       ∷ streamOf 3 [] 1 (0 ∷ [])
       ∷ streamOf 256 [] 1 (0 ∷ [])
@@ -340,29 +381,7 @@ pub record Samples : Type 0 where
       ∷ [])
       ≡ refused 4 59 ∷ refused 4 59 ∷ refused 4 59 ∷ refused 5 59 ∷ []
   -- the CRC of 01 is not 0
-  pub crc-left-out : readOf (streamOf 1 [] 0 (1 ∷ [])) ≡ refused 5 59
-  -- 6: each byte of the reserved word; sizes of 65,535 and 13, which are 12 in 16 bits
-  pub reserved-bytes : map (λ w. readOf (soundOf 2 transformText (0 ∷ 12 ∷ 0 ∷ 0 ∷ (replicate 4 0 ++ w))))
-      ((1 ∷ 0 ∷ 0 ∷ 0 ∷ []) ∷ (0 ∷ 1 ∷ 0 ∷ 0 ∷ []) ∷ (0 ∷ 0 ∷ 1 ∷ 0 ∷ []) ∷ [])
-      ≡ replicate 3 (refused 6 70)
-  pub wide-sizes : readOf (soundOf 2 transformText (0xFF ∷ 0xFF ∷ 0 ∷ 13 ∷ replicate 8 0)) ≡ refused 6 70
-  -- 6: a body of 11; EXT_HEADER_SIZE 11; the reserved word; sizes of 13 and 0, 12 and 1 in a body of 12. 6 before 7: metadata of one byte
-  pub extended : answersTo
-      (soundOf 2 transformText (replicate 11 0)
-      ∷ soundOf 2 transformText (bodyWith 11 0 0 [])
-      ∷ soundOf 2 transformText (bodyWith 12 0 1 [])
-      ∷ soundOf 2 transformText (bodyWith 13 0 0 [])
-      ∷ soundOf 2 transformText (bodyWith 12 1 0 [])
-      ∷ soundOf 2 transformText (bodyWith 12 1 1 (0 ∷ []))
-      ∷ [])
-      ≡ refused 6 69 ∷ refused 6 70 ∷ refused 6 70 ∷ refused 6 70 ∷ refused 6 70 ∷ refused 6 71 ∷ []
-  -- 7 before 8: metadata of one byte, beside an empty TRANSFORM; a section of no entries, and then no section, beside it
-  pub sections : answersTo
-      (soundOf 2 transformText (bodyWith 12 1 0 (0 ∷ []))
-      ∷ soundOf 2 transformText (bodyWith 12 2 0 (0 ∷ 0 ∷ []))
-      ∷ soundOf 2 transformText (bodyWith 12 0 0 [])
-      ∷ [])
-      ≡ refused 7 71 ∷ refused 8 72 ∷ refused 8 70 ∷ []
+  pub crc-left-out : (l : Layout) → readOf l (streamOf 1 [] 0 (1 ∷ [])) ≡ refused 5 59
   -- a BIND down to level 4, and one to level 5 (rule 4.15), as the reader and the writer judge it
   pub levels : sectionsFault bindText (contentAlone (within (within (within noChildren))))
       ∷ sectionsFault bindText (contentAlone (within (within (within (within noChildren)))))
@@ -370,32 +389,33 @@ pub record Samples : Type 0 where
       ≡ 0 ∷ 11 ∷ []
   -- ---- the writer, rules 5.8, 5.9 and 5.11
   -- 2: a TYPE of 13 bytes, with a byte 0, with a byte 128; a DEVICE_NAME of 21. 2 before 4; 4
-  pub names : writesNames (replicate 13 65) []
-      ∷ writesNames (0 ∷ []) []
-      ∷ writesNames (128 ∷ []) []
-      ∷ writesNames [] (replicate 21 65)
-      ∷ writesNames (replicate 12 65) (replicate 20 127)
+  pub names : (l : Layout) → writesNames l (replicate 13 65) []
+      ∷ writesNames l (0 ∷ []) []
+      ∷ writesNames l (128 ∷ []) []
+      ∷ writesNames l [] (replicate 21 65)
+      ∷ writesNames l (replicate 12 65) (replicate 20 127)
       ∷ []
       ≡ Refused 2 ∷ Refused 2 ∷ Refused 2 ∷ Refused 2 ∷ Refused 4 ∷ []
   -- 4 before 6: V 3 with a MSG_ID; 6: V 1 with a MSG_ID, further bytes, metadata. 6 before 7, 7 before 8, 8 before 20
-  pub parts : writes 3 1 [] [] 0
-      ∷ writes 1 1 [] [] 0
-      ∷ writes 1 0 (7 ∷ []) [] 0
-      ∷ writes 1 0 [] (0 ∷ []) 0
-      ∷ writes 2 1 [] (0 ∷ []) 0
-      ∷ writes 2 1 [] [] 0
-      ∷ []
-      ≡ Refused 4 ∷ Refused 6 ∷ Refused 6 ∷ Refused 6 ∷ Refused 7 ∷ Refused 8 ∷ []
-  -- the longest further bytes and metadata of V 2, and one byte more of each
-  pub size-fields : fits 2 0 65523 65535 ∷ fits 2 0 65524 0 ∷ fits 2 0 0 65536 ∷ [] ≡ true ∷ false ∷ false ∷ []
+  pub parts : map
+      (λ l.
+      writes l 3 1 [] [] 0
+      ∷ writes l 1 1 [] [] 0
+      ∷ writes l 1 0 (7 ∷ []) [] 0
+      ∷ writes l 1 0 [] (0 ∷ []) 0
+      ∷ writes l 2 1 [] (0 ∷ []) 0
+      ∷ writes l 2 1 [] [] 0
+      ∷ [])
+      layouts
+      ≡ replicate 2 (Refused 4 ∷ Refused 6 ∷ Refused 6 ∷ Refused 6 ∷ Refused 7 ∷ Refused 8 ∷ [])
   -- the largest body, and one byte more, in V 1 and in V 2; V 3 is judged after it
-  pub largest : (c : List ℕ) → length c ≡ 16777216 → writesContent 1 c 16777274 ≡ Wrote 16777274
-  pub largest-extended : (c : List ℕ) → length c ≡ 16777204 → writesContent 2 c 16777274 ≡ Wrote 16777274
-  pub too-large : (c : List ℕ) → length c ≡ 16777217 → (writesContent 1 c 0 ≡ Refused 3) × (writesContent 3 c 0 ≡ Refused 3)
-  pub too-large-extended : (c : List ℕ) → length c ≡ 16777205 → writesContent 2 c 0 ≡ Refused 3
+  pub largest : (l : Layout) (c : List ℕ) → length c ≡ 16777216 → writesContent l 1 c 16777274 ≡ Wrote 16777274
+  pub largest-extended : (c : List ℕ) → length c ≡ 16777204 → map (λ l. writesContent l 2 c 16777274) layouts ≡ replicate 2 (Wrote 16777274)
+  pub too-large : (l : Layout) (c : List ℕ) → length c ≡ 16777217 → (writesContent l 1 c 0 ≡ Refused 3) × (writesContent l 3 c 0 ≡ Refused 3)
+  pub too-large-extended : (l : Layout) (c : List ℕ) → length c ≡ 16777205 → writesContent l 2 c 0 ≡ Refused 3
   -- in V 2 further bytes and metadata are of the body, in any other V they are not
-  pub parts-counted : (c : List ℕ) → length c ≡ 16777205 → (writes 2 0 c [] 0 ≡ Refused 3) × (writes 2 0 [] c 0 ≡ Refused 3)
-  pub parts-not-counted : (c : List ℕ) → length c ≡ 16777217
-      → (writes 1 0 c [] 0 ≡ Refused 6) × (writes 1 0 [] c 0 ≡ Refused 6) × (writes 3 0 c c 0 ≡ Refused 4)
+  pub parts-counted : (l : Layout) (c : List ℕ) → length c ≡ 16777205 → (writes l 2 0 c [] 0 ≡ Refused 3) × (writes l 2 0 [] c 0 ≡ Refused 3)
+  pub parts-not-counted : (l : Layout) (c : List ℕ) → length c ≡ 16777217
+      → (writes l 1 0 c [] 0 ≡ Refused 6) × (writes l 1 0 [] c 0 ≡ Refused 6) × (writes l 3 0 c c 0 ≡ Refused 4)
   -- 20: one byte of room short
-  pub room : writesContent 1 (7 ∷ []) 58 ∷ writesContent 1 (7 ∷ []) 59 ∷ [] ≡ Refused 20 ∷ Wrote 59 ∷ []
+  pub room : (l : Layout) → writesContent l 1 (7 ∷ []) 58 ∷ writesContent l 1 (7 ∷ []) 59 ∷ [] ≡ Refused 20 ∷ Wrote 59 ∷ []

@@ -8,9 +8,12 @@ use Rattle.fields.specs.declared.Written.{Written}
 use Rattle.fields.specs.Checks.{orElse}
 use Rattle.fields.specs.Answer.{writtenOf, roomFault, outAfter}
 use Rattle.header.specs.Check.{namesFault, limitFault}
+use Rattle.metadata.specs.Check.{indexIn}
+use Rattle.message.specs.declared.Layout.{Layout}
+use Rattle.message.specs.declared.Layout.the-variants.{New, Old}
 use Rattle.message.specs.declared.FixedFields.{FixedFields}
 use Rattle.message.specs.Body.{Sections}
-use Rattle.message.specs.Message.{Parts, bodyOf, encodeParts}
+use Rattle.message.specs.Message.{Parts, bodyOf, encodeWith}
 use Rattle.message.specs.Check.{versionFault, sectionsFault}
 
 abbrev pub sectionsGiven : ℕ → List ℕ → List ℕ → List ℕ → Sections
@@ -27,39 +30,51 @@ given f typeText deviceName further content metadata =
       sections = sectionsGiven (f .id) further content metadata;
     }
 
+-- the body and the bytes of what is given: the index is as long as INDEX_COUNT says
+abbrev pub bodyGiven : Layout → Parts → List ℕ
+bodyGiven l p = bodyOf l (indexIn (p .sections .metadata)) p
+
+abbrev pub encodeParts : Layout → Parts → List ℕ
+encodeParts l p = encodeWith l (indexIn (p .sections .metadata)) p
+
 -- the length that check 3 of a writer compares with the limit (rule 5.11)
 abbrev pub bodyLength : ℕ → ℕ → ℕ → ℕ → ℕ
 bodyLength version further content metadata = cond (eqb version 2) (12 + further + content + metadata) content
 
--- check 6 of a writer (rule 5.9), by MSG_ID and the lengths of further bytes and metadata: V 1 has none of them; V 2 has sizes of two bytes
-unfoldable pub fits : ℕ → ℕ → ℕ → ℕ → Bool
-fits version id further metadata =
+-- of V 2: the metadata's size of two bytes fits: in the new layout that of the index, in the old that of the whole metadata
+abbrev pub sizeFits : Layout → ℕ → ℕ → Bool
+sizeFits New index metadata = leb index 65535
+sizeFits Old index metadata = leb metadata 65535
+
+-- check 6 of a writer (rule 5.9), by MSG_ID and the lengths of further bytes, index and metadata: V 1 has none of them; in V 2 they fit
+unfoldable pub fits : Layout → ℕ → ℕ → ℕ → ℕ → ℕ → Bool
+fits l version id further index metadata =
     cond (eqb version 2)
-    (leb (12 + further) 65535 && leb metadata 65535)
+    (leb (12 + further) 65535 && sizeFits l index metadata)
     (eqb id 0 && (eqb further 0 && eqb metadata 0))
 
-abbrev pub fitOk : ℕ → Sections → Bool
-fitOk version x = fits version (x .id) (length (x .further)) (length (x .metadata))
+abbrev pub fitOk : Layout → ℕ → Sections → Bool
+fitOk l version x = fits l version (x .id) (length (x .further)) (indexIn (x .metadata)) (length (x .metadata))
 
-unfoldable pub fitFault : ℕ → Sections → ℕ
-fitFault version x = cond (fitOk version x) 0 6
+unfoldable pub fitFault : Layout → ℕ → Sections → ℕ
+fitFault l version x = cond (fitOk l version x) 0 6
 
 -- checks 4 to 11
-unfoldable pub sectionsChecks : ℕ → List ℕ → Sections → ℕ
-sectionsChecks version t x = orElse (versionFault version) (orElse (fitFault version x) (sectionsFault t x))
+unfoldable pub sectionsChecks : Layout → ℕ → List ℕ → Sections → ℕ
+sectionsChecks l version t x = orElse (versionFault version) (orElse (fitFault l version x) (sectionsFault t x))
 
 -- checks 2, 3, then 4 to 11
-unfoldable pub writeChecks : Parts → ℕ
-writeChecks p =
+unfoldable pub writeChecks : Layout → Parts → ℕ
+writeChecks l p =
     orElse (namesFault (p .typeText) (p .deviceName))
-    (orElse (limitFault (length (bodyOf p))) (sectionsChecks (p .version) (p .typeText) (p .sections)))
+    (orElse (limitFault (length (bodyGiven l p))) (sectionsChecks l (p .version) (p .typeText) (p .sections)))
 
 -- into a buffer of this length
-unfoldable pub writeFault : Parts → ℕ → ℕ
-writeFault p room = orElse (writeChecks p) (roomFault (length (encodeParts p)) room)
+unfoldable pub writeFault : Layout → Parts → ℕ → ℕ
+writeFault l p room = orElse (writeChecks l p) (roomFault (length (encodeParts l p)) room)
 
-unfoldable pub messageWritten : Parts → ℕ → Written
-messageWritten p room = writtenOf (writeFault p room) (length (encodeParts p))
+unfoldable pub messageWritten : Layout → Parts → ℕ → Written
+messageWritten l p room = writtenOf (writeFault l p room) (length (encodeParts l p))
 
-unfoldable pub messageOut : Parts → List ℕ → List ℕ
-messageOut p out = outAfter (writeFault p (length out)) (encodeParts p) out
+unfoldable pub messageOut : Layout → Parts → List ℕ → List ℕ
+messageOut l p out = outAfter (writeFault l p (length out)) (encodeParts l p) out

@@ -1,16 +1,18 @@
-// The body of a message (rules 3.5 to 3.7). In V 2 it is an extended header, the content and the metadata; in V 1 it is the content.
-// Nothing else knows where the fields of the extended header stand.
+// The body of a message (rules 3.5 to 3.7), in any layout. In V 2 it is an extended header, the content and the metadata; in V 1 it is the
+// content.
+use crate::Layout;
+use crate::extended;
 use fields::number::be16;
-use fields::number::be32;
 ghost use mathlib.Core.Path.{_≡_};
 ghost use mathlib.Core.Bool.{true};
 ghost use Prim.Native.Nat.{_+_, _≤_};
 ghost use lib.ListN.{length};
 ghost use lib.Seq.{sets};
 ghost use Rattle.fields.specs.Layout.{join};
-ghost use Rattle.message.specs.Body.{extendedFields, encodeBody};
-ghost use Rattle.message.specs.Check.{extendedOk, bodyFault, placesOf};
+ghost use Rattle.message.specs.Body.{extendedFields, encodeBody, MetadataFits};
+ghost use Rattle.message.specs.Check.{extendedOk, bodyFault, sizesFault, placesOf};
 ghost use Rattle.message.specs.Writer.{sectionsGiven, bodyLength, fits};
+ghost use Rattle.metadata.specs.Check.{indexIn};
 ghost use Rattle.header.specs.Header.{limit};
 ghost use lib.Dec.{leb};
 
@@ -25,9 +27,11 @@ pub struct Places {
     pub metadata_len: usize,
 }
 
-// Check 6 of a body of V 2. The two sizes are added in a wider type than theirs.
-fn is_extended(body: &[u8]) -> bool
-    ensures { λ r. ⌜ r ≡ extendedOk (now (body .entry)) ⌝ }
+// ---- the reader's checks
+
+// Check 6 of a body of V 2. No sum of the sizes wraps.
+fn is_extended(layout: Layout, body: &[u8]) -> bool
+    ensures { λ r. ⌜ r ≡ extendedOk layout (now (body .entry)) ⌝ }
 {
     if body.len() < 12 {
         return false;
@@ -36,29 +40,39 @@ fn is_extended(body: &[u8]) -> bool
     if size < 12 {
         return false;
     }
-    if be32(body, 8) != 0 {
+    if !extended::reserved_ok(layout, body) {
         return false;
     }
-    size + be16(body, 2) as usize <= body.len()
+    size + extended::section_size(layout, body) <= body.len()
 }
 
-// The number for the layout of a body: 6, or 0 for none.
-pub(crate) fn body_number(version: u16, body: &[u8]) -> u8
-    ensures { λ r. ⌜ r ≡ bodyFault version (now (body .entry)) ⌝ }
+// Check 6 of a body: 6, or 0 for none.
+pub(crate) fn body_number(layout: Layout, version: u16, body: &[u8]) -> u8
+    ensures { λ r. ⌜ r ≡ bodyFault layout version (now (body .entry)) ⌝ }
 {
     if version != 2 {
         return 0;
     }
-    if is_extended(body) {
+    if is_extended(layout, body) {
         return 0;
     }
     6
 }
 
+// The number for metadata sizes that disagree with the section: 7, or 0 for none.
+pub(crate) fn sizes_number(layout: Layout, version: u16, body: &[u8], section: &[u8]) -> u8
+    ensures { λ r. ⌜ r ≡ sizesFault layout version (now (body .entry)) (now (section .entry)) ⌝ }
+{
+    if version != 2 {
+        return 0;
+    }
+    extended::index_number(layout, body, section)
+}
+
 // Where the sections of a body without fault stand.
-pub(crate) fn sections(version: u16, body: &[u8]) -> Places
-    requires { ⌜ bodyFault version (now body) ≡ 0 ⌝ }
-    ensures { λ r. ⌜ r ≡ placesOf version (now (body .entry)) ⌝ }
+pub(crate) fn sections(layout: Layout, version: u16, body: &[u8]) -> Places
+    requires { ⌜ bodyFault layout version (now body) ≡ 0 ⌝ }
+    ensures { λ r. ⌜ r ≡ placesOf layout version (now (body .entry)) ⌝ }
 {
     let n = body.len();
     if version != 2 {
@@ -73,9 +87,9 @@ pub(crate) fn sections(version: u16, body: &[u8]) -> Places
         };
     }
     let size = be16(body, 0) as usize;
-    let metadata_len = be16(body, 2) as usize;
+    let metadata_len = extended::section_size(layout, body);
     Places {
-        id: be32(body, 4),
+        id: extended::id_of(layout, body),
         further_at: 12,
         further_len: size - 12,
         content_at: size,
@@ -84,6 +98,8 @@ pub(crate) fn sections(version: u16, body: &[u8]) -> Places
         metadata_len: metadata_len,
     }
 }
+
+// ---- the writer's
 
 // Do sections of these lengths keep the limit? Each length is compared first, so that their sum does not wrap.
 pub(crate) fn within_limit(version: u16, further: usize, content: usize, metadata: usize) -> bool
@@ -116,14 +132,21 @@ pub(crate) fn body_len(version: u16, further: usize, content: usize, metadata: u
 }
 
 // Check 6 of a writer (rule 5.9): can a body of this version have such sections?
-pub(crate) fn is_fit(version: u16, id: u32, further: usize, metadata: usize) -> bool
-    ensures { λ r. ⌜ r ≡ fits version id further metadata ⌝ }
+pub(crate) fn is_fit(
+    layout: Layout,
+    version: u16,
+    id: u32,
+    further: usize,
+    index: usize,
+    metadata: usize,
+) -> bool
+    ensures { λ r. ⌜ r ≡ fits layout version id further index metadata ⌝ }
 {
     if version == 2 {
         if 65523 < further {
             return false;
         }
-        return metadata <= 65535;
+        return extended::size_fits(layout, index, metadata);
     }
     if id != 0 {
         return false;
@@ -135,16 +158,25 @@ pub(crate) fn is_fit(version: u16, id: u32, further: usize, metadata: usize) -> 
 }
 
 // Writes a body of V 2 to the front of a buffer.
-fn put_extended(id: u32, further: &[u8], content: &[u8], metadata: &[u8], out: &mut [u8])
-    requires { ⌜ (12 + length (now further) ≤ 65535) × (length (now metadata) ≤ 65535) × (length (now content) ≤ limit) ⌝ }
-    ensures { λ _. ⌜ now (out .exit) ≡ sets (now (out .entry)) 0 (join (extendedFields (sectionsGiven id (now (further .entry)) (now (content .entry)) (now (metadata .entry))))) ⌝ }
+fn put_extended(
+    layout: Layout,
+    id: u32,
+    further: &[u8],
+    content: &[u8],
+    metadata: &[u8],
+    out: &mut [u8],
+)
+    requires { ⌜ (12 + length (now further) ≤ 65535) × MetadataFits layout (indexIn (now metadata)) (length (now metadata)) × (length (now content) ≤ limit) ⌝ }
+    ensures { λ _. ⌜ now (out .exit) ≡ sets (now (out .entry)) 0 (join (extendedFields layout (indexIn (now (metadata .entry))) (sectionsGiven id (now (further .entry)) (now (content .entry)) (now (metadata .entry))))) ⌝ }
 {
     let content_at = 12 + further.len();
     let metadata_at = content_at + content.len();
+    let index = metadata::index_size(metadata);
+    let numbers = extended::extended_numbers(layout, index, metadata.len(), id);
     fields::number::put16(content_at as u16, 0, out);
-    fields::number::put16(metadata.len() as u16, 2, out);
-    fields::number::put32(id, 4, out);
-    fields::number::put32(0, 8, out);
+    fields::number::put16(numbers.second, 2, out);
+    fields::number::put32(numbers.third, 4, out);
+    fields::number::put32(numbers.fourth, 8, out);
     fields::store::put(further, 12, out);
     fields::store::put(content, content_at, out);
     fields::store::put(metadata, metadata_at, out);
@@ -152,6 +184,7 @@ fn put_extended(id: u32, further: &[u8], content: &[u8], metadata: &[u8], out: &
 
 // Writes a body to the front of a buffer.
 pub(crate) fn put_body(
+    layout: Layout,
     version: u16,
     id: u32,
     further: &[u8],
@@ -159,11 +192,11 @@ pub(crate) fn put_body(
     metadata: &[u8],
     out: &mut [u8],
 )
-    requires { ⌜ (fits version id (length (now further)) (length (now metadata)) ≡ true) × (length (now content) ≤ limit) ⌝ }
-    ensures { λ _. ⌜ now (out .exit) ≡ sets (now (out .entry)) 0 (encodeBody version (sectionsGiven id (now (further .entry)) (now (content .entry)) (now (metadata .entry)))) ⌝ }
+    requires { ⌜ (version ≡ 2 → (12 + length (now further) ≤ 65535) × MetadataFits layout (indexIn (now metadata)) (length (now metadata))) × (length (now content) ≤ limit) ⌝ }
+    ensures { λ _. ⌜ now (out .exit) ≡ sets (now (out .entry)) 0 (encodeBody layout version (indexIn (now (metadata .entry))) (sectionsGiven id (now (further .entry)) (now (content .entry)) (now (metadata .entry)))) ⌝ }
 {
     if version == 2 {
-        put_extended(id, further, content, metadata, out);
+        put_extended(layout, id, further, content, metadata, out);
         return;
     }
     fields::store::put(content, 0, out);

@@ -1,5 +1,6 @@
 // Whole messages: the reader of the front of a byte stream, the parts that its answer names, and the writer.
 mod body;
+mod extended;
 
 use fields::Written;
 ghost use mathlib.Core.Path.{_≡_};
@@ -10,9 +11,25 @@ ghost use Rattle.fields.specs.Checks.{orElse};
 ghost use Rattle.header.specs.Header.{limit};
 ghost use Rattle.metadata.specs.Check.{metadataFault};
 ghost use Rattle.content.specs.Check.{contentFault, deepest};
-ghost use Rattle.message.specs.Message.{bodyOf, encodeParts};
+ghost use Rattle.message.specs.Layouts.{layoutOf};
 ghost use Rattle.message.specs.Check.{versionFault, bodyFault, bodyChecks, placesOf, refused, accepted, readOf, typeIn, nameIn, furtherIn, contentIn, metadataIn};
-ghost use Rattle.message.specs.Writer.{given, sectionsGiven, sectionsChecks, writeChecks, messageWritten, messageOut};
+ghost use Rattle.message.specs.Writer.{given, bodyGiven, encodeParts, sectionsGiven, sectionsChecks, writeChecks, messageWritten, messageOut};
+
+// The two layouts of the extended header (rule 3.6). Whoever reads or writes names one.
+pub enum Layout {
+    New,
+    Old,
+}
+
+// The layout that a number stands for where one must: in scripts, and for programs in other languages.
+pub fn layout_of(number: u64) -> Layout
+    ensures { λ r. ⌜ r ≡ layoutOf number ⌝ }
+{
+    if number == 1 {
+        return Layout::Old;
+    }
+    Layout::New
+}
 
 // What the reader makes of the front of a stream: the number (rule 5.1), 0 for accepted, and the step (rule 5.3), which is the length of
 // the message, but 0 where the number is 1, 2 or 3. Then the message's fields; the places of its parts are relative to the slice that was
@@ -88,8 +105,8 @@ fn contents_number(type_text: &[u8], content: &[u8], metadata: &[u8]) -> u8
 }
 
 // Checks 4 to 11, of a message that is there whole.
-fn body_checks(version: u16, crc: u64, type_text: &[u8], body: &[u8]) -> u8
-    ensures { λ r. ⌜ r ≡ bodyChecks version crc (now («type_text» .entry)) (now (body .entry)) ⌝ }
+fn body_checks(layout: Layout, version: u16, crc: u64, type_text: &[u8], body: &[u8]) -> u8
+    ensures { λ r. ⌜ r ≡ bodyChecks layout version crc (now («type_text» .entry)) (now (body .entry)) ⌝ }
 {
     let fault = version_number(version);
     if fault != 0 {
@@ -98,24 +115,29 @@ fn body_checks(version: u16, crc: u64, type_text: &[u8], body: &[u8]) -> u8
     if crc64::crc64(body) != crc {
         return 5;
     }
-    let fault = body::body_number(version, body);
+    let fault = body::body_number(layout, version, body);
     if fault != 0 {
         return fault;
     }
-    let places = body::sections(version, body);
+    let places = body::sections(layout, version, body);
+    let metadata = fields::slice::part(body, places.metadata_at, places.metadata_len);
+    let fault = body::sizes_number(layout, version, body, metadata);
+    if fault != 0 {
+        return fault;
+    }
     contents_number(
         type_text,
         fields::slice::part(body, places.content_at, places.content_len),
-        fields::slice::part(body, places.metadata_at, places.metadata_len),
+        metadata,
     )
 }
 
 // The answer to an accepted message.
-fn accept(header: header::HeaderRead, body: &[u8]) -> Answer
-    requires { ⌜ (bodyFault (header .version) (now body) ≡ 0) × (header .«body_size» ≤ limit) × (length (now body) ≤ limit) ⌝ }
-    ensures { λ r. ⌜ r ≡ accepted header (placesOf (header .version) (now (body .entry))) ⌝ }
+fn accept(layout: Layout, header: header::HeaderRead, body: &[u8]) -> Answer
+    requires { ⌜ (bodyFault layout (header .version) (now body) ≡ 0) × (header .«body_size» ≤ limit) × (length (now body) ≤ limit) ⌝ }
+    ensures { λ r. ⌜ r ≡ accepted header (placesOf layout (header .version) (now (body .entry))) ⌝ }
 {
-    let places = body::sections(header.version, body);
+    let places = body::sections(layout, header.version, body);
     Answer {
         number: 0,
         step: 58 + header.body_size,
@@ -133,9 +155,9 @@ fn accept(header: header::HeaderRead, body: &[u8]) -> Answer
     }
 }
 
-// Reads the message at the front of a stream. What follows it starts at the answer's step.
-pub fn read(stream: &[u8]) -> Answer
-    ensures { λ r. ⌜ r ≡ readOf (now (stream .entry)) ⌝ }
+// Reads the message at the front of a stream, in this layout. What follows it starts at the answer's step.
+pub fn read(layout: Layout, stream: &[u8]) -> Answer
+    ensures { λ r. ⌜ r ≡ readOf layout (now (stream .entry)) ⌝ }
 {
     let header = header::read_header(stream);
     let number = header.number;
@@ -147,11 +169,17 @@ pub fn read(stream: &[u8]) -> Answer
         return refusal(1, 0);
     }
     let body = fields::slice::part(stream, 58, size);
-    let fault = body_checks(header.version, header.crc, header::type_text(stream), body);
+    let fault = body_checks(
+        layout,
+        header.version,
+        header.crc,
+        header::type_text(stream),
+        body,
+    );
     if fault != 0 {
         return refusal(fault, 58 + size);
     }
-    accept(header, body)
+    accept(layout, header, body)
 }
 
 // ---- the parts that an answer names. They are cut from the stream, which is not read again; for an answer to another stream they hold as
@@ -192,19 +220,28 @@ pub fn metadata(stream: &[u8], answer: Answer) -> &[u8]
 
 // Checks 4 to 11 of a writer.
 fn sections_checks(
+    layout: Layout,
     fixed: FixedFields,
     type_text: &[u8],
     further: &[u8],
     content: &[u8],
     metadata: &[u8],
 ) -> u8
-    ensures { λ r. ⌜ r ≡ sectionsChecks (fixed .version) (now («type_text» .entry)) (sectionsGiven (fixed .id) (now (further .entry)) (now (content .entry)) (now (metadata .entry))) ⌝ }
+    ensures { λ r. ⌜ r ≡ sectionsChecks layout (fixed .version) (now («type_text» .entry)) (sectionsGiven (fixed .id) (now (further .entry)) (now (content .entry)) (now (metadata .entry))) ⌝ }
 {
     let fault = version_number(fixed.version);
     if fault != 0 {
         return fault;
     }
-    if !body::is_fit(fixed.version, fixed.id, further.len(), metadata.len()) {
+    let index = metadata::index_size(metadata);
+    if !body::is_fit(
+        layout,
+        fixed.version,
+        fixed.id,
+        further.len(),
+        index,
+        metadata.len(),
+    ) {
         return 6;
     }
     contents_number(type_text, content, metadata)
@@ -212,6 +249,7 @@ fn sections_checks(
 
 // All checks of a writer but that of the room.
 fn write_checks(
+    layout: Layout,
     fixed: FixedFields,
     type_text: &[u8],
     device_name: &[u8],
@@ -219,7 +257,7 @@ fn write_checks(
     content: &[u8],
     metadata: &[u8],
 ) -> u8
-    ensures { λ r. ⌜ r ≡ writeChecks (given fixed (now («type_text» .entry)) (now («device_name» .entry)) (now (further .entry)) (now (content .entry)) (now (metadata .entry))) ⌝ }
+    ensures { λ r. ⌜ r ≡ writeChecks layout (given fixed (now («type_text» .entry)) (now («device_name» .entry)) (now (further .entry)) (now (content .entry)) (now (metadata .entry))) ⌝ }
 {
     let fault = header::names_number(type_text, device_name);
     if fault != 0 {
@@ -228,11 +266,12 @@ fn write_checks(
     if !body::within_limit(fixed.version, further.len(), content.len(), metadata.len()) {
         return 3;
     }
-    sections_checks(fixed, type_text, further, content, metadata)
+    sections_checks(layout, fixed, type_text, further, content, metadata)
 }
 
 // Writes a message that passed the checks into a buffer with room for its body of so many bytes.
 fn put_message(
+    layout: Layout,
     fixed: FixedFields,
     type_text: &[u8],
     device_name: &[u8],
@@ -242,10 +281,11 @@ fn put_message(
     size: usize,
     out: &mut [u8],
 )
-    requires { ⌜ (writeChecks (given fixed (now «type_text») (now «device_name») (now further) (now content) (now metadata)) ≡ 0) × (size ≡ length (bodyOf (given fixed (now «type_text») (now «device_name») (now further) (now content) (now metadata)))) × (58 + size ≤ length (now out)) ⌝ }
-    ensures { λ _. ⌜ now (out .exit) ≡ encodeParts (given fixed (now («type_text» .entry)) (now («device_name» .entry)) (now (further .entry)) (now (content .entry)) (now (metadata .entry))) ++ drop (58 + size) (now (out .entry)) ⌝ }
+    requires { ⌜ (writeChecks layout (given fixed (now «type_text») (now «device_name») (now further) (now content) (now metadata)) ≡ 0) × (size ≡ length (bodyGiven layout (given fixed (now «type_text») (now «device_name») (now further) (now content) (now metadata)))) × (58 + size ≤ length (now out)) ⌝ }
+    ensures { λ _. ⌜ now (out .exit) ≡ encodeParts layout (given fixed (now («type_text» .entry)) (now («device_name» .entry)) (now (further .entry)) (now (content .entry)) (now (metadata .entry))) ++ drop (58 + size) (now (out .entry)) ⌝ }
 {
     body::put_body(
+        layout,
         fixed.version,
         fixed.id,
         further,
@@ -263,8 +303,9 @@ fn put_message(
     header::write_header(header, type_text, device_name, out);
 }
 
-// Writes a message to the front of a buffer. The metadata is given as the bytes of its section.
-pub fn write(
+// Writes a message that passed the checks, if the buffer has room for it.
+fn write_checked(
+    layout: Layout,
     fixed: FixedFields,
     type_text: &[u8],
     device_name: &[u8],
@@ -273,18 +314,16 @@ pub fn write(
     metadata: &[u8],
     out: &mut [u8],
 ) -> Written
-    ensures answer { λ r. ⌜ r ≡ messageWritten (given fixed (now («type_text» .entry)) (now («device_name» .entry)) (now (further .entry)) (now (content .entry)) (now (metadata .entry))) (length (now (out .entry))) ⌝ }
-    ensures bytes { λ _. ⌜ now (out .exit) ≡ messageOut (given fixed (now («type_text» .entry)) (now («device_name» .entry)) (now (further .entry)) (now (content .entry)) (now (metadata .entry))) (now (out .entry)) ⌝ }
+    requires { ⌜ writeChecks layout (given fixed (now «type_text») (now «device_name») (now further) (now content) (now metadata)) ≡ 0 ⌝ }
+    ensures answer { λ r. ⌜ r ≡ messageWritten layout (given fixed (now («type_text» .entry)) (now («device_name» .entry)) (now (further .entry)) (now (content .entry)) (now (metadata .entry))) (length (now (out .entry))) ⌝ }
+    ensures bytes { λ _. ⌜ now (out .exit) ≡ messageOut layout (given fixed (now («type_text» .entry)) (now («device_name» .entry)) (now (further .entry)) (now (content .entry)) (now (metadata .entry))) (now (out .entry)) ⌝ }
 {
-    let fault = write_checks(fixed, type_text, device_name, further, content, metadata);
-    if fault != 0 {
-        return Written::Refused(fault);
-    }
     let size = body::body_len(fixed.version, further.len(), content.len(), metadata.len());
     if out.len() < 58 + size {
         return Written::Refused(20);
     }
     put_message(
+        layout,
         fixed,
         type_text,
         device_name,
@@ -295,4 +334,42 @@ pub fn write(
         out,
     );
     Written::Wrote(58 + size)
+}
+
+// Writes a message to the front of a buffer, in this layout. The metadata is given as the bytes of its section.
+pub fn write(
+    layout: Layout,
+    fixed: FixedFields,
+    type_text: &[u8],
+    device_name: &[u8],
+    further: &[u8],
+    content: &[u8],
+    metadata: &[u8],
+    out: &mut [u8],
+) -> Written
+    ensures answer { λ r. ⌜ r ≡ messageWritten layout (given fixed (now («type_text» .entry)) (now («device_name» .entry)) (now (further .entry)) (now (content .entry)) (now (metadata .entry))) (length (now (out .entry))) ⌝ }
+    ensures bytes { λ _. ⌜ now (out .exit) ≡ messageOut layout (given fixed (now («type_text» .entry)) (now («device_name» .entry)) (now (further .entry)) (now (content .entry)) (now (metadata .entry))) (now (out .entry)) ⌝ }
+{
+    let fault = write_checks(
+        layout,
+        fixed,
+        type_text,
+        device_name,
+        further,
+        content,
+        metadata,
+    );
+    if fault != 0 {
+        return Written::Refused(fault);
+    }
+    write_checked(
+        layout,
+        fixed,
+        type_text,
+        device_name,
+        further,
+        content,
+        metadata,
+        out,
+    )
 }

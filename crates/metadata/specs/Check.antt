@@ -11,6 +11,10 @@ use Rattle.fields.specs.Text.{isText}
 abbrev pub count : List ℕ → ℕ
 count s = beAt 2 0 s
 
+-- the bytes of INDEX_COUNT and the headers, by INDEX_COUNT
+unfoldable pub indexIn : List ℕ → ℕ
+indexIn s = cond (eqb (length s) 0) 0 (2 + 8 * count s)
+
 -- of the entry header at the front of h: KEY_SIZE, VALUE_ENCODING, VALUE_SIZE
 abbrev pub keySize : List ℕ → ℕ
 keySize h = beAt 2 0 h

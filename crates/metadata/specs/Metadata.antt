@@ -1,5 +1,5 @@
 -- Metadata (rules 3.8 to 3.11): no section, or a section of entries, and the bytes that it is written as. Nothing here reads bytes.
-use Prim.Native.Nat.{ℕ, _^_, _<_}
+use Prim.Native.Nat.{ℕ, _+_, _*_, _^_, _<_}
 use mathlib.Core.List.{List, [], _∷_, _++_}
 use lib.ListN.{length}
 use Rattle.fields.specs.Bytes.{Bytes}
@@ -31,6 +31,11 @@ entryData e = e .key ++ e .value
 unfoldable pub encodeMetadata : Metadata → List ℕ
 encodeMetadata absent = []
 encodeMetadata (section es) = beBytes 2 (length es) ++ (flat entryHeader es ++ flat entryData es)
+
+-- the bytes of INDEX_COUNT and the headers
+abbrev pub indexSize : Metadata → ℕ
+indexSize absent = 0
+indexSize (section es) = 2 + 8 * length es
 
 -- a key is a text of at least one byte; the sizes and the encoding fit their fields
 pub record WellEntry (e : Entry) : Type 0 where

@@ -5,7 +5,7 @@ mod parts;
 mod walk;
 
 ghost use mathlib.Core.Path.{_≡_};
-ghost use Rattle.metadata.specs.Check.{sectionOk, metadataFault};
+ghost use Rattle.metadata.specs.Check.{indexIn, sectionOk, metadataFault};
 ghost use Rattle.metadata.specs.Lookup.{refused, valuePlace, valueOf};
 
 // The number (rule 5.1), the value's VALUE_ENCODING, and where the value stands in the section and how long it is: all 0 besides the
@@ -41,6 +41,16 @@ fn section_ok(section: &[u8]) -> bool
         return false;
     }
     walk::entries_ok(parts::headers_of(section), parts::data_of(section), n)
+}
+
+// The bytes that INDEX_COUNT and the entries' headers take, by INDEX_COUNT; 0 for no section. Nothing is checked here.
+pub fn index_size(section: &[u8]) -> usize
+    ensures { λ r. ⌜ r ≡ indexIn (now (section .entry)) ⌝ }
+{
+    if section.len() == 0 {
+        return 0;
+    }
+    2 + 8 * parts::count(section)
 }
 
 // 7 where the section breaks its rule, or 0.

@@ -16,8 +16,8 @@ use Rattle.panel.specs.Calls.{freshPanel, addOf, linkOf, messageOf, look
 -- what a call on a panel returns
 abbrev pub resultOf : Panel → Call → Result
 resultOf p (add t n h) = ofAdd (addOf p t n h)
-resultOf p (linkUp t) = ofCall (linkOf true p t)
-resultOf p (linkDown t) = ofCall (linkOf false p t)
+resultOf p (linkUp l t) = ofCall (linkOf true l p t)
+resultOf p (linkDown t) = ofCall (linkOf false (p .link .layout) p t)
 resultOf p (message t s) = ofCall (messageOf p t s)
 resultOf p (look i now) = ofLook (lookOf p i now)
 
@@ -43,7 +43,8 @@ pub record Claim (R : Reader) (cs : List Call) : Type 0 where
 pub record Demand3 : Type 0 where
   -- with any reader (rule 1.4); there is one, and any two agree on all bytes; bytes are read as one message exactly where they are its encoding
   pub readers : Readers
-  -- the book and the history leave at most one answer to each call; a tile's messages stand after its adding; tiles are numbered in order
+  -- the book and the history leave at most one answer to each call; a tile's messages stand after its adding; the layout of the
+  -- link is the one named last; tiles are numbered in order
   pub words : Words
   pub claim : (R : Reader) (cs : List Call) → Each OfBytes cs → Claim R cs
   -- a refused call gives the panel back unchanged, and so does every look, for every panel

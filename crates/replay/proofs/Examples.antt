@@ -8,6 +8,7 @@ use Rattle.fields.specs.Bytes.{same, sized}
 use Rattle.fields.specs.Lists.{all, any}
 use Rattle.fields.specs.Numbers.{beVal}
 use Rattle.fields.specs.Text.{isText}
+use Rattle.message.specs.Layouts.{layoutOf}
 use Rattle.history.specs.Calls.{look}
 use Rattle.history.specs.Summary.{isAllowed, allowedFault, clockFault}
 use Rattle.panel.specs.declared.Panel.{Panel}
@@ -27,7 +28,7 @@ use Rattle.replay.specs.Examples.{armScript, Examples}
 
 -- the calls of P10's script
 arm-calls : callsIn armScript ≡ armBytesCalls ++ (look 0 1700 ∷ look 0 1701 ∷ [])
-unfolding callsIn callsWithin callOf beVal
+unfolding callsIn callsWithin callOf layoutOf beVal
 arm-calls = refl
 
 -- looks leave the panel as it was
@@ -44,11 +45,12 @@ looked : (i now : ℕ) (a : LookAnswer) (v : Value) → ArmLook i now a v
 looked i now a v e = ap (λ (r : LookResult). afterLook r .answered) e
 
 pub examples : Examples
-unfolding callsIn callsWithin callOf beVal answerAt answerAmong performed lookAfter panelAfter addOf addFault linkOf allowedFault isAllowed clockFault same sized any isText all
+unfolding callsIn callsWithin callOf layoutOf beVal answerAt answerAmong performed lookAfter panelAfter addOf addFault linkOf allowedFault isAllowed clockFault same sized any isText all
 examples =
     record {
       five = refl;
       five-is-look = refl;
+      layouts = refl;
       no-calls = refl;
       early-clock = refl;
       early-part = refl;

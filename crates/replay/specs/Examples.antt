@@ -6,6 +6,7 @@ use mathlib.Core.Option.{none, some}
 use lib.ListN.{replicate}
 use Rattle.fields.specs.Layout.{join}
 use Rattle.message.specs.Samples.{armBytes}
+use Rattle.message.specs.declared.Layout.the-variants.{New, Old}
 use Rattle.history.specs.Calls.{Call, add, linkUp, linkDown, message, look, green, grey, refused, accepted, added, empty, shown}
 use Rattle.panel.specs.Examples.{armValue, zeroValue}
 use Rattle.replay.specs.declared.CallAnswer.{CallAnswer}
@@ -47,7 +48,7 @@ fiveBytes =
 abbrev pub fiveCalls : List Call
 fiveCalls =
     add (0x21 ∷ 0x22 ∷ []) (0x31 ∷ 0x32 ∷ 0x33 ∷ []) 0x1112131415161718
-    ∷ linkUp 0x4142434445464748
+    ∷ linkUp New 0x4142434445464748
     ∷ linkDown 0x7172737475767778
     ∷ message 0x9192939495969798 (0xB1 ∷ 0xB2 ∷ 0xB3 ∷ [])
     ∷ look 0xD1D2D3D4D5D6D7D8 0xC1C2C3C4C5C6C7C8
@@ -77,14 +78,23 @@ pub record Examples : Type 0 where
   pub five : callsIn fiveBytes ≡ fiveCalls
   -- any other value is a look
   pub five-is-look : callsIn (5 ∷ replicate 24 0) ∷ callsIn (255 ∷ replicate 24 0) ∷ [] ≡ (look 0 0 ∷ []) ∷ (look 0 0 ∷ []) ∷ []
+  -- link ups with the numbers 0, 1, 257 and 1 + 2^56: 1 is the old layout
+  pub layouts : callsIn
+      (join
+      ((1 ∷ (replicate 7 0 ++ (4 ∷ (replicate 7 0 ++ (0 ∷ replicate 8 0)))))
+      ∷ (1 ∷ (replicate 7 0 ++ (5 ∷ (replicate 7 0 ++ (1 ∷ replicate 8 0)))))
+      ∷ (1 ∷ (replicate 7 0 ++ (6 ∷ (replicate 6 0 ++ (1 ∷ 1 ∷ replicate 8 0)))))
+      ∷ (1 ∷ (replicate 7 0 ++ (7 ∷ 1 ∷ (replicate 6 0 ++ (1 ∷ replicate 8 0)))))
+      ∷ []))
+      ≡ linkUp New 4 ∷ linkUp Old 5 ∷ linkUp New 6 ∷ linkUp New 7 ∷ []
   -- scripts that end early: no call; in a clock of which one byte and two bytes are there; in a part; after a call
   pub no-calls : callsIn [] ≡ []
-  pub early-clock : callsIn (2 ∷ 7 ∷ []) ∷ callsIn (1 ∷ 7 ∷ 8 ∷ []) ∷ [] ≡ (linkDown 7 ∷ []) ∷ (linkUp 0x0708 ∷ []) ∷ []
+  pub early-clock : callsIn (2 ∷ 7 ∷ []) ∷ callsIn (1 ∷ 7 ∷ 8 ∷ []) ∷ [] ≡ (linkDown 7 ∷ []) ∷ (linkUp New 0x0708 ∷ []) ∷ []
   pub early-part : callsIn (3 ∷ (replicate 16 0 ++ (0 ∷ 0 ∷ 0 ∷ 9 ∷ 0 ∷ 0 ∷ 0 ∷ 0 ∷ 7 ∷ 8 ∷ []))) ≡ message 0 (7 ∷ 8 ∷ []) ∷ []
   -- parts of 258 and 257 bytes
   pub long-parts : callsIn (0 ∷ (replicate 16 0 ++ (0 ∷ 0 ∷ 1 ∷ 2 ∷ 0 ∷ 0 ∷ 1 ∷ 1 ∷ (replicate 258 7 ++ replicate 257 8))))
       ≡ add (replicate 258 7) (replicate 257 8) 0 ∷ []
-  pub early-call : callsIn (1 ∷ (replicate 24 0 ++ (0 ∷ []))) ≡ linkUp 0 ∷ add [] [] 0 ∷ []
+  pub early-call : callsIn (1 ∷ (replicate 24 0 ++ (0 ∷ []))) ≡ linkUp New 0 ∷ add [] [] 0 ∷ []
   -- what the answers say, of every number and value
   pub sayings : (n : ℕ) (v : List ℕ) → map (λ a. saying a v) (Accepted ∷ Added n ∷ Empty ∷ Green n ∷ Grey n ∷ Refused n ∷ NoCall ∷ [])
       ≡ some accepted

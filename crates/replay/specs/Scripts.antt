@@ -7,13 +7,14 @@ use Rattle.fields.specs.Bytes.{Bytes}
 use Rattle.fields.specs.Lists.{Each, flat}
 use Rattle.fields.specs.Numbers.{beBytes}
 use Rattle.fields.specs.Layout.{join}
+use Rattle.message.specs.Layouts.{layoutNumber}
 use Rattle.history.specs.Calls.{Call, add, linkUp, linkDown, message, look}
 use Rattle.replay.specs.Script.{Fields, callsIn}
 
 -- the fields of a call, 0 for what it takes no notice of
 abbrev pub fieldsOf : Call → Fields
 fieldsOf (add t n h) = record { which = 0; clock = 0; number = h; first = t; second = n }
-fieldsOf (linkUp t) = record { which = 1; clock = t; number = 0; first = []; second = [] }
+fieldsOf (linkUp l t) = record { which = 1; clock = t; number = layoutNumber l; first = []; second = [] }
 fieldsOf (linkDown t) = record { which = 2; clock = t; number = 0; first = []; second = [] }
 fieldsOf (message t s) = record { which = 3; clock = t; number = 0; first = s; second = [] }
 fieldsOf (look i t) = record { which = 4; clock = t; number = i; first = []; second = [] }

@@ -1,9 +1,10 @@
-// What the reader of messages answers:
+// What the reader of messages answers, in both layouts:
 //
 //   R stream            its number and step, the message's fields and the places of its sections; the type, the device name, the
 //                       further bytes and the metadata; the CRC of the content
 //   Q length, patches   for a stream of so many zeros, patched: the number and the step, the places of the content and the metadata
 use message::Answer;
+use message::Layout;
 use vector_records::print_bytes;
 use vector_records::print_crc;
 use vector_records::print_number;
@@ -38,19 +39,29 @@ fn print_parts(stream: &[u8], answer: Answer) {
     print_crc(crc64::crc64(message::content(stream, answer)));
 }
 
-pub fn print_message(stream: &[u8]) {
-    let answer = message::read(stream);
+fn print_read(layout: Layout, stream: &[u8]) {
+    let answer = message::read(layout, stream);
     print_front(answer);
     print_fields(answer);
     print_places(answer);
     print_parts(stream, answer);
 }
 
+pub fn print_message(stream: &[u8]) {
+    print_read(Layout::New, stream);
+    print_read(Layout::Old, stream);
+}
+
+fn print_sections(layout: Layout, stream: &[u8]) {
+    let answer = message::read(layout, stream);
+    print_front(answer);
+    print_places(answer);
+}
+
 pub fn print_patched(length: &[u8], patches: &[u8]) {
     let mut zeros = vector_records::buffer(0);
     vector_records::patch(patches, &mut zeros);
     let stream = fields::slice::first(&zeros, fields::number::be32(length, 0) as usize);
-    let answer = message::read(stream);
-    print_front(answer);
-    print_places(answer);
+    print_sections(Layout::New, stream);
+    print_sections(Layout::Old, stream);
 }

@@ -1,11 +1,12 @@
 // What the writers of headers and messages answer, the number and the bytes written, and the whole buffer afterwards. out is the buffer's
-// length, four bytes, and the byte that fills it; the bytes of fixed are fields one after another:
+// length, four bytes, and the byte that fills it; the bytes of fixed are fields one after another. A message is written in both layouts, each
+// time into a fresh buffer:
 //
 //   h out, fixed, type, name   a header; fixed is the version, the time stamp, the body size and the CRC
 //   w out, fixed, type, name, further, content, metadata
 //                              a message; fixed is the version, the time stamp and the id
-//   W out, fixed, type, name, further length, content length, metadata length
-//                              a message whose sections are so many zeros each
+//   W out, fixed, type, name, further length, content length, metadata length, patches
+//                              a message whose sections are so many zeros each, the metadata patched
 //
 // For W, whose buffer is long, the CRC of the buffer stands for it.
 use fields::Written;
@@ -15,6 +16,7 @@ use fields::number::be32;
 use fields::number::be64;
 use header::HeaderFields;
 use message::FixedFields;
+use message::Layout;
 use vector_records::after_field;
 use vector_records::field;
 use vector_records::print_bytes;
@@ -50,6 +52,7 @@ fn fixed_fields(s: &[u8]) -> FixedFields {
 
 // Writes the message that a record gives, with these sections.
 fn write_sections(
+    layout: Layout,
     given: &[u8],
     further: &[u8],
     content: &[u8],
@@ -58,6 +61,7 @@ fn write_sections(
 ) -> Written {
     let type_text = after_field(given);
     message::write(
+        layout,
         fixed_fields(field(given)),
         field(type_text),
         field(after_field(type_text)),
@@ -73,10 +77,11 @@ fn after_texts(given: &[u8]) -> &[u8] {
     after_field(after_field(after_field(given)))
 }
 
-fn write_message(given: &[u8], out: &mut [u8]) -> Written {
+fn write_message(layout: Layout, given: &[u8], out: &mut [u8]) -> Written {
     let further = after_texts(given);
     let content = after_field(further);
     write_sections(
+        layout,
         given,
         field(further),
         field(content),
@@ -90,40 +95,63 @@ fn zeros_given<'a>(zeros: &'a [u8], given: &[u8]) -> &'a [u8] {
     fields::slice::first(zeros, be32(field(given), 0) as usize)
 }
 
-// The sections are zeros.
-fn write_zeros(given: &[u8], out: &mut [u8]) -> Written {
+// The sections are zeros, the metadata patched.
+fn write_zeros(layout: Layout, given: &[u8], out: &mut [u8]) -> Written {
+    let further = after_texts(given);
+    let content = after_field(further);
+    let metadata = after_field(content);
     let zeros = vector_records::buffer(0);
-    let further = zeros_given(&zeros, after_texts(given));
-    let content = zeros_given(&zeros, after_field(after_texts(given)));
-    let metadata = zeros_given(&zeros, after_field(after_field(after_texts(given))));
-    write_sections(given, further, content, metadata, out)
+    let mut patched = vector_records::buffer(0);
+    vector_records::patch(field(after_field(metadata)), &mut patched);
+    write_sections(
+        layout,
+        given,
+        zeros_given(&zeros, further),
+        zeros_given(&zeros, content),
+        zeros_given(&patched, metadata),
+        out,
+    )
 }
 
-fn write_short(kind: u8, given: &[u8], out: &mut [u8]) -> Written {
-    match kind {
-        b'h' => write_header(given, out),
-        _ => write_message(given, out),
-    }
-}
-
-fn print_out(kind: u8, given: &[u8], out: &mut [u8]) {
-    print_written(write_short(kind, given, &mut *out));
+fn print_header_out(given: &[u8], out: &mut [u8]) {
+    print_written(write_header(given, &mut *out));
     print_bytes(out);
 }
 
-pub fn print_short(kind: u8, out: &[u8], given: &[u8]) {
+pub fn print_header(out: &[u8], given: &[u8]) {
     let mut buffer = [be8(out, 4); 4096];
     let n = io::count(be32(out, 0) as isize, &buffer);
-    print_out(kind, given, &mut buffer[..n]);
+    print_header_out(given, &mut buffer[..n]);
 }
 
-fn print_out_crc(given: &[u8], out: &mut [u8]) {
-    print_written(write_zeros(given, &mut *out));
+fn print_message_out(layout: Layout, given: &[u8], out: &mut [u8]) {
+    print_written(write_message(layout, given, &mut *out));
+    print_bytes(out);
+}
+
+fn print_message_in(layout: Layout, out: &[u8], given: &[u8]) {
+    let mut buffer = [be8(out, 4); 4096];
+    let n = io::count(be32(out, 0) as isize, &buffer);
+    print_message_out(layout, given, &mut buffer[..n]);
+}
+
+pub fn print_message(out: &[u8], given: &[u8]) {
+    print_message_in(Layout::New, out, given);
+    print_message_in(Layout::Old, out, given);
+}
+
+fn print_zeros_out(layout: Layout, given: &[u8], out: &mut [u8]) {
+    print_written(write_zeros(layout, given, &mut *out));
     print_crc(crc64::crc64(out));
 }
 
-pub fn print_long(out: &[u8], given: &[u8]) {
+fn print_zeros_in(layout: Layout, out: &[u8], given: &[u8]) {
     let mut buffer = vector_records::buffer(be8(out, 4));
     let n = io::count(be32(out, 0) as isize, &buffer);
-    print_out_crc(given, &mut buffer[..n]);
+    print_zeros_out(layout, given, &mut buffer[..n]);
+}
+
+pub fn print_zeros(out: &[u8], given: &[u8]) {
+    print_zeros_in(Layout::New, out, given);
+    print_zeros_in(Layout::Old, out, given);
 }

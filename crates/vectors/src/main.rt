@@ -36,8 +36,9 @@ fn print_answer(record: &[u8]) {
         b'R' => messages::print_message(field(first)),
         b'Q' => messages::print_patched(field(first), field(second)),
         b'S' => streams::print_steps(field(first)),
-        b'h' | b'w' => writers::print_short(kind, field(first), second),
-        b'W' => writers::print_long(field(first), second),
+        b'h' => writers::print_header(field(first), second),
+        b'w' => writers::print_message(field(first), second),
+        b'W' => writers::print_zeros(field(first), second),
         b't' | b'p' | b'i' | b'b' => vector_writers::print_short(kind, field(first), second),
         b'n' | b'm' => vector_writers::print_long(kind, field(first), second),
         _ => {}

@@ -25,7 +25,7 @@ fn compare_opening(pushes: &Pushes, stream: &[u8], fault: Fault) -> Result<Label
     let before = vec![pushes.fill; pushes.room];
     let mut buffer = before.clone();
     let answer = Answer::Refused(fault);
-    let proved = feed(&[1, 100], stream, &mut buffer);
+    let proved = feed(pushes.layout, &[1, 100], stream, &mut buffer);
     same("the opening", proved, (pushed(&answer, 0, 0), 0))?;
     same_buffer(&buffer, &before)?;
     Ok(label(&answer))
@@ -45,7 +45,7 @@ fn compare_pushes(
     let labels = places.map(|place| {
         let push = &expected[place];
         let mut buffer = vec![pushes.fill; pushes.room];
-        let proved = feed(&lengths[..=place], stream, &mut buffer);
+        let proved = feed(pushes.layout, &lengths[..=place], stream, &mut buffer);
         let answered = pushed(&push.answer, push.taken, push.kept);
         same(
             format_args!("push {place}"),

@@ -3,8 +3,9 @@
 use super::damage::edge;
 use super::messages;
 use super::stock::Stock;
-use super::{any_or_few, Input};
+use super::{any_layout, any_or_few, Input};
 use reference::feed::Pushes;
+use reference::message::body::Layout;
 use reference::random::Random;
 use reference::vectors::streams;
 
@@ -14,13 +15,14 @@ const HEADER: usize = 58;
 const SHORT: usize = 600;
 
 pub fn several(random: &mut Random, stock: &Stock) -> Input {
-    let stream = messages::stream(random, stock);
-    pushed(random, &stream)
+    let layout = any_layout(random);
+    let stream = messages::stream(random, stock, layout);
+    pushed(random, layout, &stream)
 }
 
 pub fn captured(random: &mut Random, stock: &Stock) -> Input {
     let stream = messages::captured_stream(random, stock);
-    pushed(random, &stream)
+    pushed_in_any(random, &stream)
 }
 
 /// Any bytes, alone or after messages of the captures.
@@ -31,18 +33,23 @@ pub fn any_bytes(random: &mut Random, stock: &Stock) -> Input {
     };
     let length = random.below(200);
     stream.extend(any_or_few(random, length));
-    pushed(random, &stream)
+    pushed_in_any(random, &stream)
+}
+
+fn pushed_in_any(random: &mut Random, stream: &[u8]) -> Input {
+    let layout = any_layout(random);
+    pushed(random, layout, stream)
 }
 
 /// The stream in fragments, then some pushes more.
-fn pushed(random: &mut Random, stream: &[u8]) -> Input {
+fn pushed(random: &mut Random, layout: Layout, stream: &[u8]) -> Input {
     let lengths = lengths(stream);
     let room = room(random, &lengths);
     let mut fragments = cut(random, stream, &lengths);
     for _ in 0..random.pick(&[0, 0, 0, 1, 2]) {
         fragments.push(&stream[..random.below(stream.len().min(70) + 1)]);
     }
-    Input::Feed(Pushes::new(room, edge(random), &fragments))
+    Input::Feed(Pushes::new(layout, room, edge(random), &fragments))
 }
 
 /// The lengths of the messages, and of what is left after them.
@@ -95,13 +102,15 @@ fn cut<'a>(random: &mut Random, stream: &'a [u8], lengths: &[usize]) -> Vec<&'a 
     fragments
 }
 
-/// The places around the end of each header and each message.
+/// The places around the end of each header and each message, and between the fields of an extended
+/// header.
 fn marks(lengths: &[usize]) -> Vec<usize> {
     let mut start = 0;
     let marks = lengths.iter().flat_map(|length| {
         let at = start;
         start += length;
-        let places = [1, 57, 58, 59, length.saturating_sub(1), *length];
+        let last = length.saturating_sub(1);
+        let places = [1, 57, 58, 59, 60, 62, 66, 70, last, *length];
         places.map(|place| at + place)
     });
     let mut marks: Vec<usize> = marks.collect();

@@ -6,6 +6,7 @@ use super::Input;
 use crate::crc64;
 use reference::content::image::Header;
 use reference::feed::Pushes;
+use reference::message::body::Layout::{self, New, Old};
 use reference::random::Random;
 use reference::vectors::patched::Patched;
 use reference::vectors::samples::{Fields, Sample};
@@ -14,6 +15,9 @@ use reference::vectors::{bundles, images, metadata, streams};
 
 const MOST: usize = LIMIT as usize;
 const MORE: usize = 20_000_000;
+
+/// The longest section, with which a body has no content.
+const LONGEST: usize = MOST - 12;
 
 /// A kind of long inputs, and those of it by name.
 type Kind = (&'static str, &'static [(&'static str, fn() -> Input)]);
@@ -29,10 +33,17 @@ const KINDS: [Kind; 6] = [
     (
         "reader: long ones",
         &[
-            ("V 1, the largest body", || front(1, MOST)),
-            ("V 2, the largest body", || front(2, MOST)),
-            ("V 1, one byte more", || front(1, MOST + 1)),
-            ("V 2, one byte more", || front(2, MOST + 1)),
+            ("V 1, the largest body", || front(New, 1, MOST)),
+            ("new layout, the largest body", || front(New, 2, MOST)),
+            ("old layout, the largest body", || front(Old, 2, MOST)),
+            ("V 1, one byte more", || front(Old, 1, MOST + 1)),
+            ("new layout, one byte more", || front(New, 2, MOST + 1)),
+            ("old layout, one byte more", || front(Old, 2, MOST + 1)),
+            ("the longest section", || read_section(LONGEST)),
+            ("a section of 70,000 bytes", || read_section(70_000)),
+            ("8,191 entries", read_entries),
+            ("8,192 entries, the largest size", || read_too_many(65_535)),
+            ("8,192 entries, their size in 16 bits", || read_too_many(2)),
             ("the largest body and a message", followed),
             ("the largest body without its last byte", cut_short),
             ("the largest body with its last byte changed", changed),
@@ -68,6 +79,25 @@ const KINDS: [Kind; 6] = [
             ("V 2, metadata of 20,000,000", || metadata_in(2)),
             ("V 1, 20,000,000 further bytes", || further_in(1)),
             ("V 2, 20,000,000 further bytes", || further_in(2)),
+            ("new layout, the longest section", || {
+                section_in(New, LONGEST)
+            }),
+            ("old layout, the longest section", || {
+                section_in(Old, LONGEST)
+            }),
+            ("new layout, a section one byte longer", || {
+                section_in(New, LONGEST + 1)
+            }),
+            ("new layout, a section of 70,000 bytes", || {
+                section_in(New, 70_000)
+            }),
+            ("old layout, a section of 70,000 bytes", || {
+                section_in(Old, 70_000)
+            }),
+            ("new layout, 8,191 entries", || entries_in(New, 8_191)),
+            ("new layout, 8,192 entries", || entries_in(New, 8_192)),
+            ("old layout, 7,281 entries", || entries_in(Old, 7_281)),
+            ("old layout, 7,282 entries", || entries_in(Old, 7_282)),
         ],
     ),
     (
@@ -77,9 +107,11 @@ const KINDS: [Kind; 6] = [
     (
         "feed: long ones",
         &[
-            ("the largest body", || pushed(58 + MOST)),
-            ("the largest body, a byte too many", || pushed(57 + MOST)),
-            ("the largest body, passed over", || pushed(58)),
+            ("V 1, the largest body", || pushed(New, 1, 58 + MOST)),
+            ("V 1, a byte too many", || pushed(Old, 1, 57 + MOST)),
+            ("V 1, passed over", || pushed(New, 1, 58)),
+            ("new layout, the largest body", || pushed(New, 2, 58 + MOST)),
+            ("old layout, the largest body", || pushed(Old, 2, 58 + MOST)),
         ],
     ),
 ];
@@ -104,13 +136,14 @@ fn bytes(length: usize) -> Vec<u8> {
     Random::new(length as u64).bytes(length)
 }
 
-fn front(version: u16, body: usize) -> Input {
-    Input::Front(stream(version, body))
+fn front(layout: Layout, version: u16, body: usize) -> Input {
+    Input::Front(layout, stream(layout, version, body))
 }
 
 /// An opaque message whose body has so many bytes.
-fn stream(version: u16, body: usize) -> Vec<u8> {
+fn stream(layout: Layout, version: u16, body: usize) -> Vec<u8> {
     let mut sample = Sample {
+        layout,
         version,
         ..Sample::plain(b"STRING", b"")
     };
@@ -134,24 +167,63 @@ fn encoded(sample: &Sample) -> Vec<u8> {
 }
 
 fn followed() -> Input {
-    let last = Sample::extended().bytes();
-    Input::Stream([stream(2, MOST), last].concat())
+    let last = Sample::extended(New).bytes();
+    Input::Stream(New, [stream(New, 2, MOST), last].concat())
 }
 
 fn cut_short() -> Input {
-    let mut stream = stream(1, MOST);
+    let mut stream = stream(New, 1, MOST);
     stream.pop();
-    Input::Front(stream)
+    Input::Front(New, stream)
 }
 
 fn changed() -> Input {
-    let mut stream = stream(1, MOST);
+    let mut stream = stream(New, 1, MOST);
     *stream.last_mut().expect("a last byte") ^= 1;
-    Input::Front(stream)
+    Input::Front(New, stream)
 }
 
 fn captured(number: usize) -> Input {
-    Input::Stream(streams::CAPTURES[number].to_vec())
+    Input::Stream(New, streams::CAPTURES[number].to_vec())
+}
+
+/// A section of one entry, of so many bytes in all.
+fn section(length: usize) -> Vec<u8> {
+    metadata::section(&[(b"k", &bytes(length - 11))])
+}
+
+/// So many entries of one byte each.
+fn entries(count: usize) -> Vec<u8> {
+    metadata::section(&vec![(&b"a"[..], &b""[..]); count])
+}
+
+/// A message of V 2 that is all metadata.
+fn all_metadata(layout: Layout, metadata: Vec<u8>) -> Sample {
+    Sample {
+        layout,
+        version: 2,
+        id: 9,
+        metadata,
+        ..Sample::plain(b"STRING", b"")
+    }
+}
+
+fn read_section(length: usize) -> Input {
+    Input::Front(New, encoded(&all_metadata(New, section(length))))
+}
+
+fn read_entries() -> Input {
+    Input::Front(New, encoded(&all_metadata(New, entries(8_191))))
+}
+
+/// With this METADATA_HEADER_SIZE, which cannot be right.
+fn read_too_many(index_size: u16) -> Input {
+    let sample = all_metadata(New, entries(8_192));
+    let data_size = sample.metadata.len() - usize::from(index_size);
+    let mut fields = Fields::of(&sample);
+    fields.index_size = index_size;
+    fields.data_size = u32::try_from(data_size).expect("a section below the limit");
+    Input::Front(New, fields.bytes())
 }
 
 /// A BIND of so many children without type, name or bytes. Of 65,535 the table does not fit.
@@ -166,7 +238,7 @@ fn children(count: u16) -> Vec<u8> {
 }
 
 fn message_of(bind: Vec<u8>) -> Input {
-    Input::Front(encoded(&Sample::plain(b"BIND", &bind)))
+    Input::Front(New, encoded(&Sample::plain(b"BIND", &bind)))
 }
 
 fn content(type_text: &[u8], content: Vec<u8>) -> Input {
@@ -229,6 +301,14 @@ fn further_in(version: u16) -> Input {
     written(opaque(version).with(|sample| sample.further = vec![0; MORE]))
 }
 
+fn section_in(layout: Layout, length: usize) -> Input {
+    written(all_metadata(layout, section(length)))
+}
+
+fn entries_in(layout: Layout, count: usize) -> Input {
+    written(all_metadata(layout, entries(count)))
+}
+
 /// A message for a tile, and more bytes after it than a body has.
 fn left_over() -> Input {
     let bytes = [calls::arm(8), bytes(MORE)].concat();
@@ -240,10 +320,10 @@ fn left_over() -> Input {
 }
 
 /// A message with the largest body and a short one, in a few fragments.
-fn pushed(room: usize) -> Input {
-    let last = Sample::extended().bytes();
-    let stream = [stream(1, MOST), last].concat();
+fn pushed(layout: Layout, version: u16, room: usize) -> Input {
+    let last = Sample::extended(layout).bytes();
+    let stream = [stream(layout, version, MOST), last].concat();
     let (first, rest) = stream.split_at(1_000_000);
     let (middle, last) = rest.split_at(MOST - 1_000_000 + 57);
-    Input::Feed(Pushes::new(room, 7, &[first, &[], middle, last]))
+    Input::Feed(Pushes::new(layout, room, 7, &[first, &[], middle, last]))
 }

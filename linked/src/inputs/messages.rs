@@ -3,8 +3,9 @@
 use super::contents::{self, Typed};
 use super::damage::{add, change, edge, lengthen, number, resize, set};
 use super::stock::Stock;
-use super::{any_or_few, Input};
+use super::{any_layout, any_or_few, mostly, Input};
 use reference::crc::crc;
+use reference::message::body::Layout;
 use reference::random::Random;
 use reference::vectors::samples::Sample;
 use reference::vectors::{metadata, streams};
@@ -13,7 +14,20 @@ use std::ops::Range;
 const HEADER: usize = 58;
 const BODY_SIZE: Range<usize> = 42..50;
 const CRC: Range<usize> = 50..58;
-const SECTION_SIZES: [Range<usize>; 2] = [58..60, 60..62];
+
+/// METADATA_HEADER_SIZE and METADATA_SIZE of the new layout.
+const INDEX_SIZE: Range<usize> = 60..62;
+const DATA_SIZE: Range<usize> = 62..66;
+
+/// The sizes in the extended header.
+fn section_sizes(layout: Layout) -> Vec<Range<usize>> {
+    let sizes = [58..60, INDEX_SIZE, DATA_SIZE];
+    let count = match layout {
+        Layout::New => 3,
+        Layout::Old => 2,
+    };
+    sizes[..count].to_vec()
+}
 
 /// The largest body.
 pub const LIMIT: u64 = 16_777_216;
@@ -26,7 +40,7 @@ pub fn any_bytes(random: &mut Random, _: &Stock) -> Input {
         let size = random.below(100) as u64;
         set(&mut stream, BODY_SIZE, size);
     }
-    Input::Front(stream)
+    Input::Front(any_layout(random), stream)
 }
 
 /// A sound header, and a body of any bytes that only a section's rule refuses.
@@ -37,42 +51,67 @@ pub fn any_body(random: &mut Random, stock: &Stock) -> Input {
     let mut stream = Sample::plain(&type_text, &body).bytes();
     stream[1] = random.pick(&[1, 2, 2, 2]);
     // Half of the time an extended header that keeps its rule.
+    let layout = any_layout(random);
     if random.below(2) == 0 {
-        let metadata_size = random.below(12) as u64;
         set(&mut stream, 58..60, 12);
-        set(&mut stream, 60..62, metadata_size);
-        set(&mut stream, 66..70, 0);
+        match layout {
+            Layout::New => set_new_sizes(random, &mut stream),
+            Layout::Old => set_old_sizes(random, &mut stream),
+        }
     }
     mend(&mut stream);
-    Input::Front(stream)
+    Input::Front(layout, stream)
+}
+
+fn set_old_sizes(random: &mut Random, stream: &mut [u8]) {
+    let metadata_size = random.below(12) as u64;
+    set(stream, 60..62, metadata_size);
+    set(stream, 66..70, 0);
+}
+
+/// A section of two entries or fewer, whose count agrees with the size of its index.
+fn set_new_sizes(random: &mut Random, stream: &mut [u8]) {
+    let count = random.pick(&[0, 1, 1, 2]);
+    let (index_size, data_size) = (2 + 8 * count, random.below(4) as u64);
+    let section = stream
+        .len()
+        .saturating_sub((index_size + data_size) as usize)
+        .max(70);
+    set(stream, INDEX_SIZE, index_size);
+    set(stream, DATA_SIZE, data_size);
+    set(stream, section..section + 2, count);
 }
 
 /// Now and then with bytes of a next one.
 pub fn whole(random: &mut Random, stock: &Stock) -> Input {
-    let mut stream = sample(random, stock).bytes();
+    let sample = sample(random, stock);
+    let mut stream = sample.bytes();
     if random.below(8) == 0 {
         lengthen(random, &mut stream);
     }
-    Input::Front(stream)
+    Input::Front(mostly(random, sample.layout), stream)
 }
 
 pub fn with_a_fault(random: &mut Random, stock: &Stock) -> Input {
-    Input::Front(faulty(random, stock, 1))
+    let layout = any_layout(random);
+    Input::Front(layout, faulty(random, stock, layout, 1))
 }
 
 pub fn with_two(random: &mut Random, stock: &Stock) -> Input {
-    Input::Front(faulty(random, stock, 2))
+    let layout = any_layout(random);
+    Input::Front(layout, faulty(random, stock, layout, 2))
 }
 
 pub fn several(random: &mut Random, stock: &Stock) -> Input {
-    Input::Stream(stream(random, stock))
+    let layout = any_layout(random);
+    Input::Stream(layout, stream(random, stock, layout))
 }
 
-/// A few messages, some of them with a fault.
-pub fn stream(random: &mut Random, stock: &Stock) -> Vec<u8> {
+/// A few messages, most of them of this layout and some of them with a fault.
+pub fn stream(random: &mut Random, stock: &Stock, layout: Layout) -> Vec<u8> {
     let messages = (0..random.pick(&[2, 3, 4, 5])).map(|_| {
         let faults = random.pick(&[0, 0, 1]);
-        faulty(random, stock, faults)
+        faulty(random, stock, layout, faults)
     });
     messages.collect::<Vec<_>>().concat()
 }
@@ -80,17 +119,18 @@ pub fn stream(random: &mut Random, stock: &Stock) -> Vec<u8> {
 /// One that the released library wrote, mostly with a fault; a few in a row, or a whole stream of
 /// them, with a fault in some place.
 pub fn captured(random: &mut Random, stock: &Stock) -> Input {
+    let layout = any_layout(random);
     let all = &stock.captured;
     let first = random.below(all.len());
     match random.below(64) {
-        0 => Input::Stream(damaged_capture(random)),
-        1..=8 => Input::Stream(captured_stream(random, stock)),
-        9..=16 => Input::Front(all[first].to_vec()),
+        0 => Input::Stream(layout, damaged_capture(random)),
+        1..=8 => Input::Stream(layout, captured_stream(random, stock)),
+        9..=16 => Input::Front(layout, all[first].to_vec()),
         _ => {
             let mut stream = all[first].to_vec();
-            stream_fault(random, &mut stream);
+            stream_fault(random, layout, &mut stream);
             mend_by_chance(random, &mut stream);
-            Input::Front(stream)
+            Input::Front(layout, stream)
         }
     }
 }
@@ -101,7 +141,8 @@ pub fn captured_stream(random: &mut Random, stock: &Stock) -> Vec<u8> {
     let first = random.below(all.len());
     let last = all.len().min(first + 1 + random.below(5));
     let mut stream = all[first..last].concat();
-    stream_fault(random, &mut stream);
+    let layout = any_layout(random);
+    stream_fault(random, layout, &mut stream);
     stream
 }
 
@@ -139,16 +180,17 @@ fn many_entries(random: &mut Random) -> Vec<u8> {
     metadata::section(&entries)
 }
 
-/// A message with so many faults in its sections or in its fields.
-fn faulty(random: &mut Random, stock: &Stock, faults: usize) -> Vec<u8> {
+/// A message, mostly of this layout, with so many faults in its sections or in its fields.
+fn faulty(random: &mut Random, stock: &Stock, layout: Layout, faults: usize) -> Vec<u8> {
     let mut sample = sample(random, stock);
+    sample.layout = mostly(random, layout);
     let inner = random.below(faults + 1);
     for _ in 0..inner {
         sample_fault(random, &mut sample);
     }
     let mut stream = sample.bytes();
     for _ in inner..faults {
-        stream_fault(random, &mut stream);
+        stream_fault(random, layout, &mut stream);
     }
     if faults > 0 {
         mend_by_chance(random, &mut stream);
@@ -184,17 +226,17 @@ fn section_fault(random: &mut Random, section: &mut Vec<u8>) {
 }
 
 /// A fault in the bytes of a message, in the header and its sizes more than elsewhere.
-fn stream_fault(random: &mut Random, stream: &mut Vec<u8>) {
+fn stream_fault(random: &mut Random, layout: Layout, stream: &mut Vec<u8>) {
     let value = edge(random);
     let place = match random.below(12) {
         // V
         0 => random.pick(&[0, 1, 1]),
         // TYPE and DEVICE_NAME
         1 => 2 + random.below(32),
-        // The reserved word
+        // The reserved word of the old layout, MSG_ID of the new one
         2 => 66 + random.below(4),
         3..=4 => return set_body_size(random, stream),
-        5..=6 => return resize(random, stream, &SECTION_SIZES),
+        5..=6 => return resize(random, stream, &section_sizes(layout)),
         7..=8 => return change_length(random, stream),
         9 => return add(stream, CRC, 1 << random.below(64)),
         _ => return change(random, stream),
@@ -209,7 +251,7 @@ fn set_body_size(random: &mut Random, stream: &mut [u8]) {
     let size = number(stream, BODY_SIZE);
     let sizes = [
         size.wrapping_sub(1),
-        size + 1,
+        size.wrapping_add(1),
         size / 2,
         0,
         LIMIT,
@@ -218,7 +260,7 @@ fn set_body_size(random: &mut Random, stream: &mut [u8]) {
         1 << 63 | size,
         u64::MAX,
         u64::MAX - 57,
-        u64::MAX - 57 + size,
+        size.wrapping_sub(58),
         random.word(),
     ];
     set(stream, BODY_SIZE, random.pick(&sizes));

@@ -2,6 +2,7 @@
 
 use super::Input;
 use reference::feed::{Fragment, Pushes};
+use reference::message::body::Layout;
 use reference::vectors::case::digits;
 use reference::vectors::samples::Sample;
 
@@ -11,7 +12,9 @@ impl Input {
         let line = |name: &str, bytes: &[u8]| shown_part(name, bytes, most);
         match self {
             Input::Bytes(bytes) => vec![line("bytes", bytes)],
-            Input::Front(stream) | Input::Stream(stream) => vec![line("stream", stream)],
+            Input::Front(layout, stream) | Input::Stream(layout, stream) => {
+                vec![shown_layout(*layout), line("stream", stream)]
+            }
             Input::Content { type_text, content } => {
                 vec![line("type", type_text), line("content", content)]
             }
@@ -36,8 +39,17 @@ fn shown_part(name: &str, bytes: &[u8], most: usize) -> String {
     format!("{name}, {length} bytes: {digits}{rest}")
 }
 
+fn shown_layout(layout: Layout) -> String {
+    let word = match layout {
+        Layout::New => "new",
+        Layout::Old => "old",
+    };
+    format!("layout: {word}")
+}
+
 fn shown_sample(sample: &Sample, room: usize, first: u8, most: usize) -> Vec<String> {
     let Sample {
+        layout,
         version,
         time_stamp,
         id,
@@ -53,11 +65,13 @@ fn shown_sample(sample: &Sample, room: usize, first: u8, most: usize) -> Vec<Str
     let numbers = format!("version {version}, time stamp {time_stamp}, id {id}");
     let buffer = format!("buffer of {room} bytes, which count up from {first}");
     let parts = parts.map(|(name, bytes)| shown_part(name, bytes, most));
-    [numbers, buffer].into_iter().chain(parts).collect()
+    let first = [shown_layout(*layout), numbers, buffer];
+    first.into_iter().chain(parts).collect()
 }
 
 fn shown_pushes(pushes: &Pushes, most: usize) -> Vec<String> {
     let Pushes {
+        layout,
         room,
         fill,
         fragments,
@@ -67,5 +81,6 @@ fn shown_pushes(pushes: &Pushes, most: usize) -> Vec<String> {
         let name = format!("fragment with a buffer of {room} bytes");
         shown_part(&name, bytes, most)
     });
-    [opening].into_iter().chain(fragments).collect()
+    let first = [shown_layout(*layout), opening];
+    first.into_iter().chain(fragments).collect()
 }

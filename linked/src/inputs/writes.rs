@@ -3,9 +3,10 @@
 use super::damage::edge;
 use super::messages::{sample, sample_fault};
 use super::stock::Stock;
-use super::Input;
+use super::{any_layout, Input};
 use reference::random::Random;
 use reference::vectors::message_writers::length;
+use reference::vectors::metadata;
 use reference::vectors::samples::Sample;
 
 pub fn messages(random: &mut Random, stock: &Stock) -> Input {
@@ -18,7 +19,9 @@ pub fn with_faults(random: &mut Random, stock: &Stock) -> Input {
     let mut given = if random.below(2) == 0 {
         sample(random, stock)
     } else {
-        stock.written[random.below(stock.written.len())].clone()
+        let stored = &stock.written[random.below(stock.written.len())];
+        let layout = any_layout(random);
+        stored.with(|sample| sample.layout = layout)
     };
     for _ in 0..random.pick(&[1, 1, 2]) {
         fault(random, stock, &mut given);
@@ -67,13 +70,24 @@ fn text(random: &mut Random, most: usize) -> Vec<u8> {
     text
 }
 
-/// Around the most that a size field says.
+/// Around the most that a size field says, or a count around the most that the new layout has.
 fn long_section(random: &mut Random, sample: &mut Sample) {
     let length = random.pick(&[65_523, 65_524, 65_535, 65_536, 65_548]);
-    let section = if random.below(2) == 0 {
-        &mut sample.further
-    } else {
-        &mut sample.metadata
-    };
-    *section = vec![0; length];
+    let zeros = vec![0; length];
+    match random.below(4) {
+        0 => sample.further = zeros,
+        1 => sample.metadata = zeros,
+        2 => sample.metadata = metadata::section(&[(b"Key", &zeros[13..])]),
+        _ => sample.metadata = with_count(random, zeros),
+    }
+}
+
+/// The section with another count, now and then without what follows it.
+fn with_count(random: &mut Random, mut section: Vec<u8>) -> Vec<u8> {
+    let count: u16 = random.pick(&[8_190, 8_191, 8_192, 8_193, 65_535]);
+    section[..2].copy_from_slice(&count.to_be_bytes());
+    if random.below(2) == 0 {
+        section.truncate(2);
+    }
+    section
 }

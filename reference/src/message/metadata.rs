@@ -29,6 +29,16 @@ pub fn parse(section: &[u8]) -> Result<Vec<Entry<'_>>, Fault> {
     split(section).ok_or(Fault::Metadata)
 }
 
+/// How many bytes of a section come before the keys and values, by its count alone: none of a
+/// section of no bytes.
+pub fn index_size(section: &[u8]) -> Result<usize, Fault> {
+    if section.is_empty() {
+        return Ok(0);
+    }
+    let count = Cursor::new(section).u16().ok_or(Fault::Metadata)?;
+    Ok(2 + 8 * usize::from(count))
+}
+
 /// The first entry of a key.
 pub fn find<'a>(section: &'a [u8], key: &[u8]) -> Result<Found<'a>, Fault> {
     let entries = parse(section)?;
@@ -82,7 +92,7 @@ fn data_length(entry: &Entry) -> usize {
 
 #[cfg(test)]
 mod tests {
-    use super::{find, join, parse, Entry};
+    use super::{find, index_size, join, parse, Entry};
     use crate::fault::Fault;
 
     fn entry<'a>(key: &'a [u8], value: &'a [u8]) -> Entry<'a> {
@@ -102,6 +112,15 @@ mod tests {
         assert_eq!(parse(&[0, 0, 0]), Err(Fault::Metadata));
         assert_eq!(parse(&[0, 1]), Err(Fault::Metadata));
         assert_eq!(find(&[], b""), Err(Fault::NotFound));
+    }
+
+    #[test]
+    fn the_size_of_the_index_goes_by_the_count() {
+        assert_eq!(index_size(&[]), Ok(0));
+        assert_eq!(index_size(&[0]), Err(Fault::Metadata));
+        assert_eq!(index_size(&[0, 0, 9]), Ok(2));
+        assert_eq!(index_size(&[0x1F, 0xFF]), Ok(65_530));
+        assert_eq!(index_size(&[0xFF, 0xFF]), Ok(524_282));
     }
 
     #[test]

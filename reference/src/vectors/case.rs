@@ -1,6 +1,7 @@
 //! A case: the record that the program reads and the line that it writes.
 
 use crate::crc::crc;
+use crate::message::body::Layout;
 use std::fmt::{Display, Write};
 
 #[derive(Clone)]
@@ -48,6 +49,11 @@ impl Case {
         self.bytes(&crc(bytes).to_be_bytes())
     }
 
+    /// The words of both layouts, those of the new one first.
+    pub fn in_both(self, words: impl Fn(Case, Layout) -> Case) -> Self {
+        Layout::BOTH.into_iter().fold(self, words)
+    }
+
     fn text(mut self, text: impl Display) -> Self {
         write!(self.line, "{text}").expect("a string takes any text");
         self
@@ -81,6 +87,7 @@ pub fn digits(bytes: &[u8]) -> String {
 #[cfg(test)]
 mod tests {
     use super::{input, output, Case};
+    use crate::message::body::Layout;
 
     #[test]
     fn a_case_has_a_record_and_a_line() {
@@ -88,5 +95,14 @@ mod tests {
         let cases = [case.words(&[0xAB])];
         assert!(input(&cases).starts_with(&[0, 5, b'T', 0, 2, 1, 2]));
         assert_eq!(output(&cases), b"T 8 - 000000ab\n");
+    }
+
+    #[test]
+    fn the_new_layout_comes_first() {
+        let case = Case::of_kind('R').in_both(|case, layout| {
+            let number = if layout == Layout::New { 7 } else { 8 };
+            case.number(number)
+        });
+        assert_eq!(output(&[case]), b"R 7 8\n");
     }
 }

@@ -3,6 +3,7 @@
 
 mod captures;
 mod examples;
+mod layouts;
 mod lengths;
 mod refusals;
 mod rooms;
@@ -10,6 +11,7 @@ mod rooms;
 use super::case::{digits, field};
 use crate::fault::number;
 use crate::feed::{Answer, Fragment, Push, Pushes};
+use crate::message::body::Layout;
 use crate::random::Random;
 
 /// What all bytes of most buffers are before the first push.
@@ -28,12 +30,19 @@ pub fn feeds() -> Vec<Pushes> {
         rooms::feeds(),
         refusals::feeds(),
         captures::feeds(),
+        layouts::feeds(),
     ]
     .concat()
 }
 
+/// Of the new layout, as all that are made here.
 fn feed(room: usize, fragments: &[&[u8]]) -> Pushes {
-    Pushes::new(room, FILL, fragments)
+    Pushes::new(Layout::New, room, FILL, fragments)
+}
+
+/// The feed opened with a layout.
+fn opened_in(layout: Layout, feed: Pushes) -> Pushes {
+    Pushes { layout, ..feed }
 }
 
 /// The stream in fragments of so many bytes.
@@ -71,15 +80,25 @@ fn with(mut feed: Pushes, room: usize, bytes: &[u8]) -> Pushes {
     feed
 }
 
-/// The length of the buffer and the value of its bytes, then the fragments: the length of the
-/// buffer lent with each, and its bytes as a field.
-fn record(feed: &Pushes) -> Vec<u8> {
+/// The byte that names a feed's layout. Bytes that name the new one take turns.
+fn layout_byte(number: usize, layout: Layout) -> u8 {
+    match layout {
+        Layout::New => [0, 2, 128, 255][number % 4],
+        Layout::Old => 1,
+    }
+}
+
+/// The layout's byte, the length of the buffer and the value of its bytes, then the fragments: the
+/// length of the buffer lent with each, and its bytes as a field.
+fn record((number, feed): (usize, &Pushes)) -> Vec<u8> {
     let fragments = feed.fragments.iter();
     let fragments = fragments.flat_map(|fragment| {
         let room = two_bytes(fragment.room);
         [&room[..], &field(&fragment.bytes)].concat()
     });
-    let opening = two_bytes(feed.room).into_iter().chain([feed.fill]);
+    let layout = layout_byte(number, feed.layout);
+    let opening = [layout].into_iter().chain(two_bytes(feed.room));
+    let opening = opening.chain([feed.fill]);
     field(&opening.chain(fragments).collect::<Vec<_>>())
 }
 
@@ -122,7 +141,7 @@ fn text(answer: &Answer) -> String {
 /// The input: the records, and then one that lacks its last byte.
 pub fn input(feeds: &[Pushes]) -> Vec<u8> {
     let cut_short = feed(58, &[b"cut short"]);
-    let feeds = feeds.iter().chain([&cut_short]);
+    let feeds = feeds.iter().chain([&cut_short]).enumerate();
     let mut bytes: Vec<u8> = feeds.flat_map(record).collect();
     bytes.pop();
     bytes
@@ -136,29 +155,33 @@ pub fn output(feeds: &[Pushes]) -> Vec<u8> {
 
 #[cfg(test)]
 mod tests {
-    use super::{by_chance, cut_at, feed, feeds, input, lines, output, pieces, with};
+    use super::{by_chance, cut_at, feed, feeds, input, lines, opened_in, output, pieces, with};
     use crate::feed::{Answer, Pushes};
+    use crate::message::body::Layout;
     use crate::random::Random;
     use std::collections::BTreeSet;
 
     #[test]
     fn a_record_and_its_lines() {
         let opened = with(feed(0x0102, &[&[7, 8]]), 0x0304, &[]);
-        let feeds = [opened, feed(57, &[])];
+        let old = opened_in(Layout::Old, feed(57, &[]));
+        let feeds = [opened, old, feed(0, &[])];
         let record = input(&feeds);
-        let opening = [0, 13, 1, 2, 0xEE];
+        let opening = [0, 14, 0, 1, 2, 0xEE];
         let fragments = [1, 2, 0, 2, 7, 8, 3, 4, 0, 0];
-        assert_eq!(record[..15], [&opening[..], &fragments].concat());
-        assert_eq!(record[15..20], [0, 3, 0, 57, 0xEE]);
+        assert_eq!(record[..16], [&opening[..], &fragments].concat());
+        assert_eq!(record[16..22], [0, 4, 1, 0, 57, 0xEE]);
+        assert_eq!(record[22..28], [0, 4, 128, 0, 0, 0xEE]);
         let buffer = "ee".repeat(256);
         let expected = "feed 0\nopened\n2 2 nothing\n0 2 refused 20\nbuffer 0708";
-        let expected = format!("{expected}{buffer}\nfeed 1\nrefused 20\n");
+        let refused = "feed 1\nrefused 20\nfeed 2\nrefused 20\n";
+        let expected = format!("{expected}{buffer}\n{refused}");
         assert_eq!(output(&feeds), expected.into_bytes());
     }
 
     #[test]
     fn the_last_record_lacks_a_byte() {
-        let opening = [0, 16, 0, 58, 0xEE];
+        let opening = [0, 17, 0, 0, 58, 0xEE];
         let record = [&opening[..], &[0, 58, 0, 9], b"cut shor"].concat();
         assert_eq!(input(&[]), record);
     }

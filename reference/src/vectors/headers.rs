@@ -5,6 +5,7 @@ use super::out::{answered, rooms, Out};
 use super::samples::{set, with_changes, Sample};
 use super::writers::TYPES;
 use crate::fault::number;
+use crate::message::body::Layout;
 use crate::message::header::{Header, LENGTH};
 use crate::message::time_stamp::{nanoseconds, seconds};
 use crate::random::Random;
@@ -57,7 +58,7 @@ fn header_case(stream: &[u8]) -> Case {
 }
 
 fn read_headers(random: &mut Random) -> Vec<Case> {
-    let whole = Sample::extended().bytes();
+    let whole = Sample::extended(Layout::Old).bytes();
     let lengths = [0, 1, 2, 14, 34, 56, 57, LENGTH, 59, whole.len()];
     let lengths = lengths.map(|length| whole[..length].to_vec());
     let sound = &whole[..LENGTH];

@@ -3,10 +3,12 @@
 use super::bundles;
 use super::case::Case;
 use super::out::{answered, answered_with_crc, rooms, Out};
+use super::patched::Patched;
 use super::samples::Sample;
 use super::{headers, messages, metadata, trees};
+use crate::message::body::Layout;
 use crate::random::Random;
-use crate::writer::write_message;
+use crate::writer::{write_message, Written};
 
 const SEED: u64 = 9;
 const CHANCES: usize = 100;
@@ -20,6 +22,7 @@ pub fn cases() -> Vec<Case> {
         contents(),
         by_chance(&mut random),
         of_zeros(),
+        of_patches(),
     ]
     .concat()
 }
@@ -29,7 +32,12 @@ fn written_case(sample: &Sample, out: Out) -> Case {
         .given(&sample.further)
         .given(&sample.content)
         .given(&sample.metadata);
-    answered(case, out.after(|out| write_message(&sample.message(), out)))
+    case.in_both(|case, layout| answered(case, written(layout, sample, out)))
+}
+
+/// What is answered with this buffer, and the buffer afterwards.
+fn written(layout: Layout, sample: &Sample, out: Out) -> (Written, Vec<u8>) {
+    out.after(|out| write_message(layout, &sample.message(), out))
 }
 
 /// A case with the fields that every record of this writer begins with.
@@ -49,7 +57,7 @@ fn begun(sample: &Sample, out: Out, kind: char) -> Case {
 pub fn length(sample: &Sample) -> usize {
     let sections = [&sample.further, &sample.content, &sample.metadata];
     let about = 70 + sections.iter().map(|section| section.len()).sum::<usize>();
-    let bytes = sample.message().encode();
+    let bytes = sample.message().encode(sample.layout);
     bytes.map_or(about, |bytes| bytes.len())
 }
 
@@ -61,7 +69,7 @@ fn around_the_length() -> Vec<Case> {
 
 /// Sound samples and each fault, alone and with those after it in the order.
 pub fn samples() -> Vec<Sample> {
-    [plain_samples(), extended_samples()].concat()
+    [plain_samples(), extended_samples(), large_counts()].concat()
 }
 
 fn changed<const N: usize>(sample: &Sample, changes: [fn(&mut Sample); N]) -> Vec<Sample> {
@@ -100,7 +108,7 @@ fn deep() -> Vec<u8> {
 
 fn extended_samples() -> Vec<Sample> {
     changed(
-        &Sample::extended(),
+        &Sample::extended(Layout::New),
         [
             |_| (),
             |sample| sample.id = 0,
@@ -126,7 +134,25 @@ fn extended_samples() -> Vec<Sample> {
             |sample| (sample.metadata, sample.device_name) = (vec![9], vec![0]),
             |sample| *sample = everything_wrong(),
             |sample| *sample = everything_wrong().with(|sample| sample.device_name.clear()),
-            |sample| *sample = Sample::default(),
+            |sample| *sample = nothing(),
+        ],
+    )
+}
+
+/// Sections whose count is around the most that the new layout has.
+fn large_counts() -> Vec<Sample> {
+    changed(
+        &Sample::extended(Layout::New),
+        [
+            |sample| sample.metadata = vec![0x1F, 0xFF],
+            |sample| sample.metadata = vec![0x20, 0],
+            |sample| sample.metadata = vec![0xFF, 0xFF],
+            |sample| sample.metadata = vec![0xFF],
+            |sample| sample.metadata[0] = 0x20,
+            |sample| (sample.metadata[0], sample.content) = (0x20, vec![]),
+            |sample| (sample.metadata[0], sample.version) = (0x20, 1),
+            |sample| (sample.metadata[0], sample.version) = (0x20, 3),
+            |sample| (sample.metadata[0], sample.type_text) = (0x20, vec![b'A'; 13]),
         ],
     )
 }
@@ -138,6 +164,15 @@ fn everything_wrong() -> Sample {
         device_name: vec![255; 21],
         metadata: vec![9],
         ..Sample::plain(b"TRANSFORM", &[0; 47])
+    }
+}
+
+/// Of version 0, with every field empty.
+fn nothing() -> Sample {
+    Sample {
+        version: 0,
+        device_name: vec![],
+        ..Sample::plain(b"", b"")
     }
 }
 
@@ -154,10 +189,11 @@ fn texts() -> Vec<Case> {
     cases.collect()
 }
 
-/// Every other sample of the metadata, in a room that is enough.
+/// Every other sample of the metadata and one of many entries, in a room that is enough.
 fn sections() -> Vec<Case> {
     let sections = metadata::samples().into_iter().step_by(2);
-    let samples = sections.map(messages::with_metadata);
+    let sections = sections.chain([metadata::many()]);
+    let samples = sections.map(|section| messages::with_metadata(Layout::New, section));
     samples.map(|sample| exact_case(&sample)).collect()
 }
 
@@ -242,35 +278,109 @@ fn length_of_zeros((version, _, lengths): Zeros) -> usize {
     front + lengths.iter().sum::<u32>() as usize
 }
 
-fn zeros_case((version, type_text, lengths): Zeros, room: usize) -> Case {
-    let [further, content, metadata] = lengths.map(|length| vec![0; length as usize]);
-    let sample = Sample {
+fn zeros_case((version, type_text, [further, content, metadata]): Zeros, room: usize) -> Case {
+    let section = (
         version,
+        type_text,
+        [further, content],
+        Patched::new(metadata, &[]),
+    );
+    patched_case(&section, &with_section(&section), room)
+}
+
+/// The length of a section and the patches of its zeros.
+fn one_entry(length: u32) -> Patched {
+    let value_size = length - 11;
+    let [high, low] = [value_size >> 16, value_size & 0xFFFF].map(|half| half as u16);
+    let front = [(0, 1), (2, 1), (6, high), (8, low)];
+    let key = [(10, 0x6B00)];
+    Patched::new(length, &[&front[..], &key].concat())
+}
+
+/// A section of so many bytes that begins with this count. The keys of its entries have no bytes.
+fn with_count(count: u16, length: u32) -> Patched {
+    Patched::new(length, &[(0, count)])
+}
+
+/// A version and a type; of how many zeros the further bytes and the content are; the section.
+type WithSection = (u16, &'static [u8], [u32; 2], Patched);
+
+/// Sections around the most that the size field of the old layout says, and above; counts around
+/// the most that the new layout has.
+fn long_sections() -> Vec<WithSection> {
+    let lengths = [65_534, 65_535, 65_536, 70_000, 131_083, 1_000_000];
+    let whole = lengths.map(|length| (2, &b"STATUS"[..], [0, 0], one_entry(length)));
+    let counts = [
+        (8_191, 65_535),
+        (8_192, 65_535),
+        (65_535, 65_535),
+        (8_191, 73_721),
+        (8_192, 73_730),
+    ];
+    let counts = counts.map(|(count, length)| {
+        let section = with_count(count, length);
+        (2, &b"STATUS"[..], [0, 0], section)
+    });
+    let others: [WithSection; 8] = [
+        (2, b"TRANSFORM", [65_523, 48], one_entry(70_000)),
+        (2, b"TRANSFORM", [65_524, 48], one_entry(70_000)),
+        (2, b"TRANSFORM", [65_523, 47], one_entry(70_000)),
+        (2, b"TRANSFORM", [65_523, 47], one_entry(70_000).longer(1)),
+        (1, b"STATUS", [0, 0], one_entry(70_000)),
+        (3, b"STATUS", [0, 0], one_entry(70_000)),
+        (1, b"STATUS", [0, 0], with_count(8_192, 73_730)),
+        (2, b"THIRTEEN_BYTE", [0, 0], with_count(8_192, 73_730)),
+    ];
+    let all = whole.into_iter().chain(counts).chain(others);
+    all.collect()
+}
+
+fn of_patches() -> Vec<Case> {
+    let sections = long_sections().into_iter();
+    let cases = sections.flat_map(|section| {
+        let sample = with_section(&section);
+        let length = length(&sample);
+        [length - 1, length, length + 3].map(|room| patched_case(&section, &sample, room))
+    });
+    cases.collect()
+}
+
+fn with_section((version, type_text, lengths, section): &WithSection) -> Sample {
+    let [further, content] = lengths.map(|length| vec![0; length as usize]);
+    Sample {
+        version: *version,
         further,
-        metadata,
+        metadata: section.content(),
         ..Sample::plain(type_text, &content)
-    };
+    }
+}
+
+fn patched_case((_, _, lengths, section): &WithSection, sample: &Sample, room: usize) -> Case {
     let out = Out::new(room);
-    let lengths = lengths.map(u32::to_be_bytes);
-    let case = begun(&sample, out, 'W');
-    let case = lengths.iter().fold(case, |case, length| case.given(length));
-    answered_with_crc(case, out.after(|out| write_message(&sample.message(), out)))
+    let lengths = lengths.map(|length| length.to_be_bytes().to_vec());
+    let fields = lengths.into_iter().chain(section.fields());
+    let case = fields.fold(begun(sample, out, 'W'), |case, field| case.given(&field));
+    case.in_both(|case, layout| answered_with_crc(case, written(layout, sample, out)))
 }
 
 #[cfg(test)]
 mod tests {
-    use super::{extended_samples, plain_samples, Sample};
+    use super::{
+        extended_samples, large_counts, long_sections, plain_samples, with_section, Layout, Sample,
+    };
     use crate::fault::number;
 
-    fn answers(samples: &[Sample]) -> Vec<u8> {
-        let answers = samples.iter().map(|sample| sample.message().encode());
+    fn answers(layout: Layout, samples: &[Sample]) -> Vec<u8> {
+        let answers = samples.iter().map(|sample| sample.message().encode(layout));
         answers.map(|answer| number(&answer)).collect()
     }
 
     #[test]
     fn plain_samples_in_the_order_of_the_checks() {
         let expected = [0, 0, 8, 6, 6, 6, 6, 6, 6, 2, 4, 6, 9, 10, 0, 11, 0];
-        assert_eq!(answers(&plain_samples()), expected);
+        for layout in Layout::BOTH {
+            assert_eq!(answers(layout, &plain_samples()), expected);
+        }
     }
 
     #[test]
@@ -278,6 +388,36 @@ mod tests {
         let expected = [
             0, 0, 0, 0, 0, 7, 7, 8, 7, 7, 7, 9, 10, 11, 0, 4, 4, 4, 4, 4, 2, 2, 2, 4, 4,
         ];
-        assert_eq!(answers(&extended_samples()), expected);
+        for layout in Layout::BOTH {
+            assert_eq!(answers(layout, &extended_samples()), expected);
+        }
+    }
+
+    #[test]
+    fn counts_that_only_the_old_layout_looks_up() {
+        let samples = large_counts();
+        let new = answers(Layout::New, &samples);
+        assert_eq!(new, [7, 6, 6, 7, 6, 6, 6, 4, 2]);
+        let old = answers(Layout::Old, &samples);
+        assert_eq!(old, [7, 7, 7, 7, 7, 7, 6, 4, 2]);
+    }
+
+    #[test]
+    fn long_sections_in_both_layouts() {
+        let samples: Vec<Sample> = long_sections().iter().map(with_section).collect();
+        let new = answers(Layout::New, &samples);
+        let whole = [0; 6];
+        let counts = [7, 6, 6, 7, 6];
+        assert_eq!(
+            new,
+            [&whole[..], &counts, &[0, 6, 8, 7, 6, 4, 6, 2]].concat()
+        );
+        let old = answers(Layout::Old, &samples);
+        let whole = [0, 0, 6, 6, 6, 6];
+        let counts = [7, 7, 7, 6, 6];
+        assert_eq!(
+            old,
+            [&whole[..], &counts, &[6, 6, 6, 6, 6, 4, 6, 2]].concat()
+        );
     }
 }

@@ -1,16 +1,19 @@
 //! Cases of messages: what is answered of the front of a stream.
 
+mod new_layout;
+
 use super::bundles::{self, EMPTY};
 use super::case::Case;
 use super::patched::Patched;
 use super::samples::{mended, set, with_changes, Fields, Sample};
 use super::{headers, images, metadata, streams, trees};
 use crate::fault::number;
+use crate::message::body::Layout;
 use crate::message::{read, Message};
 use crate::random::Random;
 
 const SEED: u64 = 8;
-const CHANCES: usize = 55;
+const CHANCES: usize = 70;
 
 pub fn cases() -> Vec<Case> {
     let mut random = Random::new(SEED);
@@ -18,10 +21,11 @@ pub fn cases() -> Vec<Case> {
         received(&mut random),
         lengths(),
         header_bytes(),
-        body_bytes(),
+        Layout::BOTH.map(body_bytes).concat(),
         short_bodies(),
         extended_headers(),
         orders(),
+        new_layout::streams(),
         headers_alone(),
         headers::texts(),
         sections(),
@@ -37,7 +41,12 @@ pub fn cases() -> Vec<Case> {
 }
 
 fn message_case(stream: &[u8]) -> Case {
-    let reading = read(stream);
+    let case = Case::of_kind('R').given(stream);
+    case.in_both(|case, layout| answered(case, layout, stream))
+}
+
+fn answered(case: Case, layout: Layout, stream: &[u8]) -> Case {
+    let reading = read(layout, stream);
     let numbers = reading.numbers();
     let Message {
         type_text,
@@ -45,9 +54,7 @@ fn message_case(stream: &[u8]) -> Case {
         body,
         ..
     } = reading.message.unwrap_or_default();
-    Case::of_kind('R')
-        .given(stream)
-        .numbers(numbers)
+    case.numbers(numbers)
         .bytes(type_text)
         .bytes(device_name)
         .bytes(body.further)
@@ -58,13 +65,15 @@ fn message_case(stream: &[u8]) -> Case {
 /// A stream too long for a record.
 fn patched_case(stream: &[u8]) -> Case {
     let [length, patches] = Patched::of(stream).fields();
-    let reading = read(stream);
+    let case = Case::of_kind('Q').given(&length).given(&patches);
+    case.in_both(|case, layout| answered_briefly(case, layout, stream))
+}
+
+fn answered_briefly(case: Case, layout: Layout, stream: &[u8]) -> Case {
+    let reading = read(layout, stream);
     let [_, content_at, metadata_at] = reading.places();
     let body = reading.message.unwrap_or_default().body;
-    Case::of_kind('Q')
-        .given(&length)
-        .given(&patches)
-        .number(number(&reading.message))
+    case.number(number(&reading.message))
         .number(reading.step)
         .numbers([content_at, body.content.len()])
         .numbers([metadata_at, body.metadata.len()])
@@ -106,8 +115,8 @@ fn header_bytes() -> Vec<Vec<u8>> {
 }
 
 /// Each byte of each section changed: the CRC left as it was, and made anew.
-fn body_bytes() -> Vec<Vec<u8>> {
-    let sound = Sample::extended().bytes();
+fn body_bytes(layout: Layout) -> Vec<Vec<u8>> {
+    let sound = Sample::extended(layout).bytes();
     let of_place = |place: usize| {
         let [low, high] = [1, 128].map(|bit| set(&sound, place, sound[place] ^ bit));
         [low.clone(), mended(low), mended(high)]
@@ -115,29 +124,33 @@ fn body_bytes() -> Vec<Vec<u8>> {
     (58..sound.len()).flat_map(of_place).collect()
 }
 
-/// P6 and the lengths around it, with their CRC, in each version.
+/// P6 and the lengths around it, with their CRC, in each version; a MSG_ID of 7 in each layout.
 fn short_bodies() -> Vec<Vec<u8>> {
-    let body = [0, 12, 0, 0, 0, 0, 0, 7, 0, 0, 0, 0, 0, 0];
-    let of_version = |version: u8| {
+    let old = [0, 12, 0, 0, 0, 0, 0, 7, 0, 0, 0, 0, 0, 0];
+    let new = [0, 12, 0, 0, 0, 0, 0, 0, 0, 0, 0, 7, 0, 0];
+    let of_version = |(version, body): (u8, [u8; 14])| {
         (0..=body.len()).map(move |length| {
             let plain = Sample::plain(b"STATUS", &body[..length]);
             set(&plain.bytes(), 1, version)
         })
     };
-    (0..=3).flat_map(of_version).collect()
+    let old = (0..=3).map(|version| (version, old));
+    old.chain([(2, new)]).flat_map(of_version).collect()
 }
 
-/// Sizes of the two sections, the id and the reserved word; sums that are small in 16 bits.
+/// Of the old layout: sizes of the two sections, the id and the reserved word; sums that are small
+/// in 16 bits.
 fn extended_headers() -> Vec<Vec<u8>> {
     let sizes = [0, 1, 11, 12, 13, 15, 16, 32, 0x010F, 0x7FFF, 0x8000, 65_535];
     let of_size = |size| {
-        let [mut extended, mut metadata] = [(); 2].map(|()| Fields::of(&Sample::extended()));
+        let sample = Sample::extended(Layout::Old);
+        let [mut extended, mut metadata] = [(); 2].map(|()| Fields::of(&sample));
         extended.extended_size = size;
         metadata.metadata_size = size;
         [extended, metadata].map(|fields| fields.bytes())
     };
     let changed = with_changes(
-        &Sample::extended(),
+        &Sample::extended(Layout::Old),
         [
             |fields| (fields.extended_size, fields.metadata_size) = (65_535, 13),
             |fields| (fields.extended_size, fields.metadata_size) = (65_535, 1),
@@ -163,10 +176,10 @@ fn extended_headers() -> Vec<Vec<u8>> {
     sizes.into_iter().flat_map(of_size).chain(changed).collect()
 }
 
-/// Two faults or more: the first in the reader's order counts.
+/// Two faults or more, in the old layout: the first in the reader's order counts.
 fn orders() -> Vec<Vec<u8>> {
     with_changes(
-        &Sample::extended(),
+        &Sample::extended(Layout::Old),
         [
             |fields| (fields.version, fields.crc) = (3, Some(0)),
             |fields| (fields.version, fields.body_size) = (3, Some(1000)),
@@ -215,16 +228,22 @@ fn headers_alone() -> Vec<Vec<u8>> {
     streams.to_vec()
 }
 
-/// No metadata, a section without entries, one byte; every other sample, from the second on.
+/// No metadata, a section without entries, one byte; every other sample, from the second on, in the
+/// old layout, and every third in the new one.
 fn sections() -> Vec<Vec<u8>> {
-    let short = [vec![], vec![0, 0], vec![0]].into_iter();
-    let samples = metadata::samples().into_iter().skip(1).step_by(2);
-    let streams = short.chain(samples).map(with_metadata);
-    streams.map(|sample| sample.bytes()).collect()
+    let of_layout = |(layout, step)| {
+        let short = [vec![], vec![0, 0], vec![0]].into_iter();
+        let samples = metadata::samples().into_iter().skip(1).step_by(step);
+        let sections = short.chain(samples);
+        sections.map(move |section| with_metadata(layout, section).bytes())
+    };
+    let layouts = [(Layout::Old, 2), (Layout::New, 3)];
+    layouts.into_iter().flat_map(of_layout).collect()
 }
 
-pub fn with_metadata(metadata: Vec<u8>) -> Sample {
+pub fn with_metadata(layout: Layout, metadata: Vec<u8>) -> Sample {
     Sample {
+        layout,
         version: 2,
         metadata,
         ..Sample::plain(b"", b"")
@@ -263,31 +282,43 @@ fn both_versions((type_text, content): (&[u8], Vec<u8>)) -> [Sample; 2] {
     [plain, extended]
 }
 
-/// Sections whose sizes take both bytes of their fields.
+/// Sections whose sizes take more than one byte of their fields; the longest in the old layout
+/// alone.
 fn long_sections() -> Vec<Vec<u8>> {
     let value = [7; 700];
     let metadata = metadata::section(&[(b"A", &value), (b"B", &value[..3])]);
-    let further = |length| Sample::extended().with(|sample| sample.further = vec![5; length]);
-    let samples = [
-        with_metadata(metadata),
-        further(243),
-        further(244),
-        further(500),
-        further(32_756),
-    ];
-    samples.iter().map(Sample::bytes).collect()
+    let further = |layout, length| {
+        let sample = Sample::extended(layout);
+        sample.with(|sample| sample.further = vec![5; length])
+    };
+    let of_layout = |layout| {
+        let sections = [metadata.clone(), metadata::many()];
+        let [long, many] = sections.map(|section| with_metadata(layout, section));
+        [
+            long,
+            many,
+            further(layout, 243),
+            further(layout, 244),
+            further(layout, 500),
+        ]
+    };
+    let samples = Layout::BOTH.into_iter().flat_map(of_layout);
+    let samples = samples.chain([further(Layout::Old, 32_756)]);
+    samples.map(|sample| sample.bytes()).collect()
 }
 
 fn long_streams() -> Vec<Vec<u8>> {
-    [wide_sums(), long_bodies()].concat()
+    let [new, old] = Layout::BOTH.map(wide_sums);
+    [old, long_bodies(), new, new_layout::long_streams()].concat()
 }
 
 /// The sizes of the extended header and of the metadata add up to more than 16 bits hold: a body of
 /// as many bytes, longer ones, and one that lacks its last byte.
-fn wide_sums() -> Vec<Vec<u8>> {
+fn wide_sums(layout: Layout) -> Vec<Vec<u8>> {
     let one_entry = metadata::section(&[(b"A", &[0; 65_524])]);
     let of_metadata = |metadata: &Vec<u8>| {
         let sample = Sample {
+            layout,
             version: 2,
             further: vec![0; 65_523],
             metadata: metadata.clone(),
@@ -338,13 +369,13 @@ fn by_chance(random: &mut Random) -> Vec<Vec<u8>> {
 
 #[cfg(test)]
 mod tests {
-    use super::{extended_headers, headers_alone, long_bodies, orders, wide_sums};
+    use super::{extended_headers, headers_alone, long_bodies, orders, wide_sums, Layout};
     use crate::fault::number;
     use crate::message::read;
 
-    fn answers(streams: &[Vec<u8>]) -> Vec<u8> {
-        let answers = streams.iter().map(|stream| number(&read(stream).message));
-        answers.collect()
+    pub fn answers(layout: Layout, streams: &[Vec<u8>]) -> Vec<u8> {
+        let readings = streams.iter().map(|stream| read(layout, stream));
+        readings.map(|reading| number(&reading.message)).collect()
     }
 
     #[test]
@@ -352,22 +383,34 @@ mod tests {
         let expected = [
             4, 1, 4, 3, 1, 2, 2, 2, 2, 5, 5, 5, 6, 6, 6, 7, 7, 7, 10, 4, 4, 4, 4, 4,
         ];
-        assert_eq!(answers(&orders()), expected);
-        assert_eq!(answers(&headers_alone()), [0, 1, 1, 3, 3, 3, 3]);
+        assert_eq!(answers(Layout::Old, &orders()), expected);
+        for layout in Layout::BOTH {
+            assert_eq!(answers(layout, &headers_alone()), [0, 1, 1, 3, 3, 3, 3]);
+        }
     }
 
     #[test]
     fn sizes_whose_sum_is_small_in_16_bits_are_refused() {
-        assert_eq!(answers(&extended_headers()[24..29]), [6; 5]);
-    }
-    #[test]
-    fn sizes_whose_sum_passes_16_bits_are_added_whole() {
-        assert_eq!(answers(&wide_sums()), [0, 0, 0, 6, 7, 7, 7, 6, 0, 0, 0, 6]);
+        let streams = &extended_headers()[24..29];
+        for layout in Layout::BOTH {
+            assert_eq!(answers(layout, streams), [6; 5]);
+        }
     }
 
     #[test]
+    fn sizes_whose_sum_passes_16_bits_are_added_whole() {
+        let expected = [0, 0, 0, 6, 7, 7, 7, 6, 0, 0, 0, 6];
+        for layout in Layout::BOTH {
+            assert_eq!(answers(layout, &wide_sums(layout)), expected);
+        }
+    }
+
+    /// Their MSG_ID is 0 and their section has no entries, so that the layouts are alike.
+    #[test]
     fn bodies_above_a_megabyte() {
         let expected = [1, 0, 5, 10, 1, 0, 5, 7, 1, 0, 5, 0, 1, 0, 5, 7];
-        assert_eq!(answers(&long_bodies()), expected);
+        for layout in Layout::BOTH {
+            assert_eq!(answers(layout, &long_bodies()), expected);
+        }
     }
 }

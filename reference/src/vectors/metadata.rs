@@ -40,6 +40,21 @@ pub fn section(entries: &[(&[u8], &[u8])]) -> Vec<u8> {
     whole(&entries.collect::<Vec<_>>())
 }
 
+/// As many bytes of a section, sound or not, as its count says that come before the keys and
+/// values.
+pub fn index_size(section: &[u8]) -> usize {
+    let count = section
+        .first_chunk()
+        .map(|&count| u16::from_be_bytes(count));
+    let size = 2 + 8 * usize::from(count.unwrap_or(0));
+    size.min(section.len())
+}
+
+/// So many entries that the size of their index takes both bytes of its field.
+pub fn many() -> Vec<u8> {
+    section(&[(&b"A"[..], &b""[..]); 300])
+}
+
 fn entry<'a>(key: &'a [u8], encoding: u16, value: &'a [u8]) -> Entry<'a> {
     Entry {
         key,
@@ -274,7 +289,7 @@ fn random_cases(random: &mut Random) -> Vec<Case> {
 
 #[cfg(test)]
 mod tests {
-    use super::{sound, Fields};
+    use super::{index_size, sound, Fields};
     use crate::message::metadata::{find, parse};
 
     #[test]
@@ -283,6 +298,13 @@ mod tests {
         let found = find(&section, b"Arm").unwrap();
         assert_eq!(found.entry.value, b"\0\xFF");
         assert_eq!(parse(&section).unwrap().len(), 4);
+    }
+
+    #[test]
+    fn the_index_is_no_longer_than_the_section() {
+        assert_eq!(index_size(&Fields::mixed().bytes()), 2 + 8 * 4);
+        let short: [&[u8]; 4] = [&[], &[9], &[0, 0], &[0, 1, 0]];
+        assert_eq!(short.map(index_size), [0, 1, 2, 3]);
     }
 
     #[test]

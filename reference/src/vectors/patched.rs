@@ -1,4 +1,5 @@
-//! Contents and streams too long for a record: zeros but for two bytes at each of some places.
+//! Contents, sections and streams too long for a record: zeros but for two bytes at each of some
+//! places.
 
 /// A length and the patches, which the program is given to make the content itself.
 #[derive(Clone)]

@@ -2,14 +2,16 @@
 
 use super::{metadata, trees};
 use crate::crc::crc;
-use crate::message::body::Body;
+use crate::message::body::{Body, Layout};
 use crate::message::Message;
 use crate::random::Random;
 use crate::text;
 
 /// What a message says, whether it can be sent or not.
-#[derive(Clone, Default)]
+#[derive(Clone)]
 pub struct Sample {
+    /// The layout of its bytes.
+    pub layout: Layout,
     pub version: u16,
     pub time_stamp: u64,
     pub id: u32,
@@ -22,8 +24,9 @@ pub struct Sample {
 
 impl Sample {
     /// A POSITION with something in every section.
-    pub fn extended() -> Self {
+    pub fn extended(layout: Layout) -> Self {
         Sample {
+            layout,
             version: 2,
             time_stamp: 0x0102_0304_8000_0001,
             id: 0xA1B2_C3D4,
@@ -33,18 +36,22 @@ impl Sample {
         }
     }
 
-    /// A message that is all content.
+    /// A message that is all content, which is the same in both layouts.
     pub fn plain(type_text: &[u8], content: &[u8]) -> Self {
         Sample {
             version: 1,
             type_text: type_text.to_vec(),
             device_name: b"Arm".to_vec(),
             content: content.to_vec(),
-            ..Sample::default()
+            layout: Layout::New,
+            time_stamp: 0,
+            id: 0,
+            further: vec![],
+            metadata: vec![],
         }
     }
 
-    /// One of the types of a BIND's children, sections of a few bytes each.
+    /// One of the types of a BIND's children, sections of a few bytes each, in one of the layouts.
     pub fn by_chance(random: &mut Random) -> Self {
         let child = trees::child(random);
         let names: [&[u8]; 4] = [b"", b"Arm", b"\x01\x7F", b"A name of 20 bytes!!"];
@@ -59,6 +66,7 @@ impl Sample {
         }
         let further_length = random.pick(&[0, 0, 1, 4, 9]);
         Sample {
+            layout: random.pick(&Layout::BOTH),
             version: 2,
             id: random.u32(),
             further: random.bytes(further_length),
@@ -104,10 +112,15 @@ pub struct Fields {
     /// The true one where nothing is given, and so for the CRC.
     pub body_size: Option<u64>,
     pub crc: Option<u64>,
+    pub layout: Layout,
     pub extended_size: u16,
+    /// METADATA_HEADER_SIZE and METADATA_SIZE of the new layout.
+    pub index_size: u16,
+    pub data_size: u32,
+    /// METADATA_SIZE and the reserved word of the old layout.
     pub metadata_size: u16,
-    pub id: u32,
     pub reserved: u32,
+    pub id: u32,
     pub further: Vec<u8>,
     pub content: Vec<u8>,
     pub metadata: Vec<u8>,
@@ -115,7 +128,10 @@ pub struct Fields {
 
 impl Fields {
     pub fn of(sample: &Sample) -> Self {
-        let size = |bytes: &[u8]| u16::try_from(bytes.len()).expect("a short section");
+        let size = |length: usize| u16::try_from(length).unwrap_or(u16::MAX);
+        let metadata_length = sample.metadata.len();
+        let index_size = size(metadata::index_size(&sample.metadata));
+        let data_size = metadata_length - usize::from(index_size);
         Fields {
             version: sample.version,
             type_field: text::field(&sample.type_text).expect("a type"),
@@ -123,10 +139,13 @@ impl Fields {
             time_stamp: sample.time_stamp,
             body_size: None,
             crc: None,
-            extended_size: 12 + size(&sample.further),
-            metadata_size: size(&sample.metadata),
-            id: sample.id,
+            layout: sample.layout,
+            extended_size: size(12 + sample.further.len()),
+            index_size,
+            data_size: u32::try_from(data_size).expect("a section below the limit"),
+            metadata_size: size(metadata_length),
             reserved: 0,
+            id: sample.id,
             further: sample.further.clone(),
             content: sample.content.clone(),
             metadata: sample.metadata.clone(),
@@ -138,9 +157,12 @@ impl Fields {
         if self.version == 1 {
             return self.content.clone();
         }
-        let sizes = [self.extended_size, self.metadata_size].map(u16::to_be_bytes);
-        let words = [self.id, self.reserved].map(u32::to_be_bytes);
-        let front = [sizes.concat(), words.concat()].concat();
+        let (first_size, words) = match self.layout {
+            Layout::New => (self.index_size, [self.data_size, self.id]),
+            Layout::Old => (self.metadata_size, [self.id, self.reserved]),
+        };
+        let sizes = [self.extended_size, first_size].map(u16::to_be_bytes);
+        let front = [sizes.concat(), words.map(u32::to_be_bytes).concat()].concat();
         [&front[..], &self.further, &self.content, &self.metadata].concat()
     }
 
@@ -191,18 +213,19 @@ pub fn mended(mut stream: Vec<u8>) -> Vec<u8> {
 
 #[cfg(test)]
 mod tests {
-    use super::{mended, Sample};
+    use super::{mended, Layout, Sample};
     use crate::fault::{number, Fault};
     use crate::message::read;
     use crate::random::Random;
 
     #[test]
     fn the_fields_are_those_of_the_message() {
-        let samples = [Sample::extended(), Sample::plain(b"STATUS", b"content")];
-        for sample in samples {
-            assert_eq!(sample.message().encode(), Ok(sample.bytes()));
-            assert_eq!(mended(sample.bytes()), sample.bytes());
-            assert_eq!(read(&sample.bytes()).message, Ok(sample.message()));
+        let [new, old] = Layout::BOTH.map(Sample::extended);
+        for sample in [new, old, Sample::plain(b"STATUS", b"content")] {
+            let bytes = sample.bytes();
+            assert_eq!(sample.message().encode(sample.layout), Ok(bytes.clone()));
+            assert_eq!(mended(bytes.clone()), bytes);
+            assert_eq!(read(sample.layout, &bytes).message, Ok(sample.message()));
         }
     }
 
@@ -210,17 +233,20 @@ mod tests {
     fn a_message_by_chance_is_answered_alike_by_reader_and_writer() {
         let mut random = Random::new(7);
         let mut seen = Vec::new();
-        for _ in 0..500 {
+        for _ in 0..1500 {
             let sample = Sample::by_chance(&mut random);
-            let written = sample.message().encode();
-            seen.push(number(&written));
+            let written = sample.message().encode(sample.layout);
+            seen.push((sample.layout, number(&written)));
             assert_eq!(
-                read(&sample.bytes()).message,
+                read(sample.layout, &sample.bytes()).message,
                 written.map(|_| sample.message())
             );
         }
         let contents = [Fault::Length, Fault::Image, Fault::Bind, Fault::Depth];
-        assert!(seen.contains(&0));
-        assert!(contents.iter().all(|&fault| seen.contains(&(fault as u8))));
+        for layout in Layout::BOTH {
+            let answered = |number| seen.contains(&(layout, number));
+            assert!(answered(0));
+            assert!(contents.iter().all(|&fault| answered(fault as u8)));
+        }
     }
 }

@@ -4,6 +4,7 @@ pub mod calls;
 pub mod chances;
 mod colours;
 pub mod encodings;
+mod layouts;
 mod links;
 mod refusals;
 mod sizes;
@@ -33,6 +34,7 @@ fn named() -> Vec<Script> {
         refusals::scripts(),
         tiles::scripts(),
         encodings::scripts(),
+        layouts::scripts(),
     ]
     .concat()
 }

@@ -2,8 +2,9 @@
 
 use super::case::Case;
 use super::samples::{with_changes, Fields, Sample};
-use super::{bundles, trees};
+use super::{bundles, metadata, trees};
 use crate::listing::{lines, Line};
+use crate::message::body::Layout;
 use crate::random::Random;
 
 const SEED: u64 = 7;
@@ -18,26 +19,34 @@ pub const CAPTURES: [&[u8]; 2] = [
 pub fn cases() -> Vec<Case> {
     let mut random = Random::new(SEED);
     let captures = CAPTURES.map(<[u8]>::to_vec).to_vec();
+    let [new, old] = Layout::BOTH.map(between_sound_ones);
     let streams = [
         captures,
         damaged_captures(&mut random),
         short_streams(),
-        between_sound_ones(),
+        old,
         pairs(),
         by_chance(&mut random),
+        vec![new_layout()],
+        new,
+        mixed(),
     ];
     streams.concat().iter().map(|stream| case(stream)).collect()
 }
 
 fn case(stream: &[u8]) -> Case {
-    let lines = lines(stream).into_iter();
-    let numbers = lines.flat_map(|Line { at, answer, step }| [at, answer.into(), step]);
-    Case::of_kind('S').given(stream).numbers(numbers)
+    let case = Case::of_kind('S').given(stream);
+    case.in_both(|case, layout| {
+        let lines = lines(layout, stream).into_iter();
+        let numbers = lines.flat_map(|Line { at, answer, step }| [at, answer.into(), step]);
+        case.numbers(numbers)
+    })
 }
 
-/// The messages of a stream, each cut out by its step.
+/// The messages of a stream, each cut out by its step, which is the same in both layouts.
 pub fn messages(stream: &[u8]) -> Vec<&[u8]> {
-    let lines = lines(stream).into_iter().filter(|line| line.step > 0);
+    let lines = lines(Layout::New, stream).into_iter();
+    let lines = lines.filter(|line| line.step > 0);
     let messages = lines.map(|line| &stream[line.at..line.at + line.step]);
     messages.collect()
 }
@@ -48,6 +57,35 @@ pub fn listing_input() -> Vec<u8> {
     let mut wrong = Fields::of(&Sample::plain(b"GET_STATUS", &[1]));
     wrong.crc = Some(0);
     [sound, wrong.bytes()].concat()
+}
+
+/// Messages of the new layout: without metadata and with some, with further bytes and a section of
+/// no entries, one of the old layout (6), one whose sizes disagree with its section (7), and a last
+/// one.
+pub fn new_layout() -> Vec<u8> {
+    let message = |id, type_text, content| Sample {
+        version: 2,
+        id,
+        ..Sample::plain(type_text, content)
+    };
+    let arm = message(1, b"TRANSFORM", &[7; 48]);
+    let entries: [(&[u8], &[u8]); 3] = [(b"unit", b"mm"), (b"room", b"2"), (b"note", b"")];
+    let needle = Sample {
+        metadata: metadata::section(&entries),
+        ..message(2, b"POSITION", &[9; 28])
+    };
+    let further = Sample {
+        further: vec![1, 2, 3],
+        metadata: vec![0, 0],
+        ..message(0x0102_0304, b"STATUS", b"content")
+    };
+    let layout = Layout::Old;
+    let old = message(7, b"GET_STATUS", b"").with(|sample| sample.layout = layout);
+    let mut disagreeing = Fields::of(&needle);
+    (disagreeing.index_size, disagreeing.data_size) = (18, 23);
+    let last = message(u32::MAX, b"GET_STATUS", b"");
+    let front = [arm, needle, further, old].map(|sample| sample.bytes());
+    [front.concat(), disagreeing.bytes(), last.bytes()].concat()
 }
 
 /// The shorter one with some bits changed, without its last byte, and from its second byte on.
@@ -73,9 +111,9 @@ fn short_streams() -> Vec<Vec<u8>> {
 }
 
 /// A message for each number of the reader, from 2 on; those of 4 and above step.
-pub fn refused() -> Vec<Vec<u8>> {
+pub fn refused(layout: Layout) -> Vec<Vec<u8>> {
     let mut streams = with_changes(
-        &Sample::extended(),
+        &Sample::extended(layout),
         [
             |fields| fields.name_field[19] = 1,
             |fields| fields.body_size = Some(0x100_0001),
@@ -94,17 +132,26 @@ pub fn refused() -> Vec<Vec<u8>> {
 }
 
 /// Each of them between two sound messages.
-pub fn between_sound_ones() -> Vec<Vec<u8>> {
-    let first = Sample::extended().bytes();
+pub fn between_sound_ones(layout: Layout) -> Vec<Vec<u8>> {
+    let first = Sample::extended(layout).bytes();
     let last = Sample::plain(b"TRANSFORM", &[7; 48]).bytes();
-    let streams = refused().into_iter();
+    let streams = refused(layout).into_iter();
     let streams = streams.map(|stream| [&first[..], &stream, &last].concat());
     streams.collect()
 }
 
-/// Each of those that step before each.
+/// A sound message of each layout, between them one for each number from 4 on, in both layouts.
+fn mixed() -> Vec<Vec<u8>> {
+    let [first, last] = Layout::BOTH.map(|layout| Sample::extended(layout).bytes());
+    let [new, old] = Layout::BOTH.map(refused);
+    let pairs = new.into_iter().zip(old).skip(2);
+    let streams = pairs.map(|(new, old)| [&first[..], &old, &new, &last].concat());
+    streams.collect()
+}
+
+/// Each of those of the old layout that step before each.
 fn pairs() -> Vec<Vec<u8>> {
-    let refused = &refused()[2..];
+    let refused = &refused(Layout::Old)[2..];
     let of_first = |first: &Vec<u8>| {
         let streams = refused.iter().map(|second| [&first[..], second].concat());
         streams.collect::<Vec<_>>()
@@ -130,9 +177,9 @@ fn by_chance(random: &mut Random) -> Vec<Vec<u8>> {
 
 #[cfg(test)]
 mod tests {
-    use super::{listing_input, messages, refused, CAPTURES};
+    use super::{listing_input, messages, mixed, new_layout, refused, Layout, CAPTURES};
     use crate::fault::number;
-    use crate::listing::{lines, table};
+    use crate::listing::{lines, table, Line};
     use crate::message::read;
 
     /// As rule 8.3 has it.
@@ -144,11 +191,42 @@ mod tests {
         assert_eq!(table(&input), expected);
     }
 
+    /// The one of 70 bytes that is answered 6 has the old layout.
+    #[test]
+    fn the_listing_of_the_new_layout() {
+        let expected = "at answer step\n\
+            0 0 118\n\
+            118 0 139\n\
+            257 0 82\n\
+            339 6 70\n\
+            409 7 139\n\
+            548 0 70\n\
+            618 1 0\n";
+        assert_eq!(table(&new_layout()), expected);
+        let old = lines(Layout::Old, &new_layout());
+        let answers = old.iter().map(|line| line.answer);
+        assert!(answers.eq([6, 6, 6, 0, 6, 6, 1]));
+    }
+
     #[test]
     fn a_refused_message_for_each_number() {
-        let streams = refused();
-        let answers = streams.iter().map(|stream| number(&read(stream).message));
-        assert_eq!(answers.collect::<Vec<_>>(), (2..=11).collect::<Vec<_>>());
+        for layout in Layout::BOTH {
+            let streams = refused(layout);
+            let readings = streams.iter().map(|stream| read(layout, stream));
+            let answers = readings.map(|reading| number(&reading.message));
+            assert!(answers.eq(2..=11));
+        }
+    }
+
+    #[test]
+    fn the_steps_of_mixed_layouts() {
+        for stream in mixed() {
+            let [new, old] = Layout::BOTH.map(|layout| lines(layout, &stream));
+            let steps = |lines: &[Line]| lines.iter().map(|line| line.step).collect::<Vec<_>>();
+            assert_eq!(steps(&new), steps(&old));
+            assert_eq!([new[0].answer, new[3].answer], [0, 6]);
+            assert_eq!([old[0].answer, old[3].answer], [6, 0]);
+        }
     }
 
     /// The BINDs of 4 bytes that are no sound content: 00 03 40 42.
@@ -156,7 +234,8 @@ mod tests {
     fn all_messages_of_the_captures_but_six_are_accepted() {
         let refused = CAPTURES.map(|capture| {
             assert_eq!(messages(capture).concat(), capture);
-            let lines = lines(capture);
+            let lines = lines(Layout::New, capture);
+            assert_eq!(lines, super::lines(Layout::Old, capture));
             let (last, messages) = lines.split_last().unwrap();
             assert_eq!((last.at, last.answer), (capture.len(), 1));
             let refused = messages.iter().filter(|line| line.answer > 0);

@@ -1,10 +1,16 @@
 -- `exports::kudireppa_feed` meets its contract: the pushes, or the opening's refusal.
 use mathlib.Core.Path.{sym, ap, _∙_}
+use lib.ListN.{length}
 use lib.Seq.{sets}
 use borrow.Author.Needs.{needs}
+use Rattle.message.specs.declared.Layout.{Layout}
+use Rattle.feed.specs.Push.{openOf}
 use Rattle.exports.proofs.Laws.{total-opened, buffer-opened, bytes-opened, total-refused, buffer-refused, bytes-refused}
 use Rattle.exports.proofs.kudireppa_feed.Statement.{statement}
 use Rattle.exports.proofs.kudireppa_feed.Tie as tie
+
+layout-of-requires : tie.Need-layout-of-requires
+layout-of-requires c κs = search needs
 
 open-feed-requires : tie.Need-open-feed-requires
 open-feed-requires c κs = search needs
@@ -35,17 +41,19 @@ same-length-2 c = search needs
 
 returns : tie.Need-returns
 returns c =
-    let a = c .before .before .before .before .before .before .before .before .before .before .before .before .before .before .before .before .before .before .before .before .args in
-    let o = c .before .before .before .before .before .before .before .before .before .before .before .before .before .before .open-feed .ensures in
-    let f = c .before .before .before .before .before .before .before .before .before .before .before .before .opened .given in
-    let fed = c .before .before .before .before .before .before .before .before .before .push-all in
-    let kept = c .before .before .before .before .kept-len .ensures in
-    let e = sym o ∙ f .1 in (
-      total-opened (a .lengths .now) (a .stream .now) (a .buffer .now) _ _ e _ (fed .ensures .0),
+    let kept = c .before .before .before .before in
+    let fed = kept .before .before .before .before .before in
+    let opened = fed .before .before .before in
+    let opening = opened .before .before in
+    let a = opening .before .before .before .before .before .before .before .args in
+    let o = opening .open-feed .ensures ∙ ap (λ (l : Layout). openOf l (length (a .buffer .now))) (opening .before .before .layout-of .ensures) in
+    let e = sym o ∙ opened .opened .given .1 in
+    let f = fed .push-all .ensures in (
+      total-opened (a .lengths .now) (a .stream .now) (a .buffer .now) _ _ e _ (f .0),
       (
-        buffer-opened (a .lengths .now) (a .stream .now) (a .buffer .now) _ _ e _ (fed .ensures .0) _ (fed .ensures .1),
+        buffer-opened (a .lengths .now) (a .stream .now) (a .buffer .now) _ _ e _ (f .0) _ (f .1),
         c .before .before .put-pushed .ensures
-            ∙ ap (sets (a .out .now) 0) (bytes-opened (a .lengths .now) (a .stream .now) (a .buffer .now) _ _ e _ (fed .ensures .0) _ kept),
+            ∙ ap (sets (a .out .now) 0) (bytes-opened (a .lengths .now) (a .stream .now) (a .buffer .now) _ _ e _ (f .0) _ (kept .kept-len .ensures)),
       ),
     )
 
@@ -57,8 +65,11 @@ same-length-4 c = search needs
 
 returns-2 : tie.Need-returns-2
 returns-2 c =
-    let a = c .before .before .before .before .before .before .before .before .before .before .before .before .before .args in
-    let e = sym (c .before .before .before .before .before .before .before .open-feed .ensures) ∙ c .before .before .before .before .before .opened2 .given .1 in (
+    let opened = c .before .before .before .before .before in
+    let opening = opened .before .before in
+    let a = opening .before .before .before .before .before .before .before .args in
+    let o = opening .open-feed .ensures ∙ ap (λ (l : Layout). openOf l (length (a .buffer .now))) (opening .before .before .layout-of .ensures) in
+    let e = sym o ∙ opened .opened2 .given .1 in (
       total-refused (a .lengths .now) (a .stream .now) (a .buffer .now) _ _ e,
       (
         buffer-refused (a .lengths .now) (a .stream .now) (a .buffer .now) _ _ e,
@@ -71,6 +82,7 @@ pub kudireppa-feed-spec : {M : Type 1} → statement M
 kudireppa-feed-spec =
     tie.close
     (tie.spec
+    layout-of-requires
     open-feed-requires
     enum-known-opened
     push-all-requires

@@ -13,6 +13,7 @@ use Rattle.header.specs.Header.{limit}
 use Rattle.header.specs.declared.HeaderRead.{HeaderRead}
 use Rattle.header.specs.Check.{headerOf, headerFault, headerRead}
 use Rattle.header.proofs.Laws.Faults.{fault-passed, header-read-passed, header-read-number}
+use Rattle.message.specs.declared.Layout.{Layout}
 use Rattle.message.specs.Check.{readOf, refused}
 use Rattle.feed.specs.declared.Feed.{Feed}
 use Rattle.feed.specs.declared.OpenAnswer.the-variants as opening
@@ -26,17 +27,17 @@ use Rattle.feed.proofs.Laws.Pushes.{same-front}
 
 -- ---- open_feed
 
-pub opens-not : (n : ℕ) → n < 58 → opening.Refused 20 ≡ openOf n
+pub opens-not : (l : Layout) (n : ℕ) → n < 58 → opening.Refused 20 ≡ openOf l n
 unfolding openOf
-opens-not n h = sym (cond-yes (ltb n 58) _ _ (lt-ltb n 58 h))
+opens-not l n h = sym (cond-yes (ltb n 58) _ _ (lt-ltb n 58 h))
 
-pub opens-so : (n : ℕ) → 58 ≤ n → opening.Opened (keeping n 0) ≡ openOf n
+pub opens-so : (l : Layout) (n : ℕ) → 58 ≤ n → opening.Opened (keeping l n 0) ≡ openOf l n
 unfolding openOf
-opens-so n h = sym (cond-no (ltb n 58) _ _ (le-ltb n 58 h))
+opens-so l n h = sym (cond-no (ltb n 58) _ _ (le-ltb n 58 h))
 
 -- ---- what is kept, k bytes, and the fragment
 
-module _ (k : ℕ) (s buf : List ℕ) (inside : k ≤ length buf) where
+module _ (l : Layout) (k : ℕ) (s buf : List ℕ) (inside : k ≤ length buf) where
   abbrev u : List ℕ
   u = take k buf ++ s
 
@@ -45,18 +46,18 @@ module _ (k : ℕ) (s buf : List ℕ) (inside : k ≤ length buf) where
 
   -- take_body: the message ends at e, and fits
   module _ (e : ℕ) (fits : e ≤ length buf) where
-    pub body-waits : length s < e - k → pushed Nothing (keeping (length buf) (k + length s)) (length s) ≡ fittingOf (length buf) k (length s) (take k buf ++ s) e
+    pub body-waits : length s < e - k → pushed Nothing (keeping l (length buf) (k + length s)) (length s) ≡ fittingOf l (length buf) k (length s) (take k buf ++ s) e
     unfolding fittingOf
     body-waits h =
-        ap (λ (n : ℕ). pushed Nothing (keeping (length buf) n) (length s)) (sym long)
+        ap (λ (n : ℕ). pushed Nothing (keeping l (length buf) n) (length s)) (sym long)
         ∙ sym (cond-yes (ltb (length u) e) _ _ (lt-ltb (length u) e (omega (arith, h, long))))
 
     pub body-reads : e - k ≤ length s → (out : List ℕ) → out ≡ sets buf k (take (e - k) s)
-        → pushed (Read (readOf (take e out))) (keeping (length buf) 0) (e - k) ≡ fittingOf (length buf) k (length s) (take k buf ++ s) e
+        → pushed (Read (readOf l (take e out))) (keeping l (length buf) 0) (e - k) ≡ fittingOf l (length buf) k (length s) (take k buf ++ s) e
     unfolding fittingOf
     body-reads h out g =
         let m : e ≤ length u = omega (arith, h, long) in
-        ap (λ (l : List ℕ). pushed (Read (readOf l)) (keeping (length buf) 0) (e - k)) (ap (take e) g ∙ front-put k buf s e e inside fits (omega arith) m)
+        ap (λ (x : List ℕ). pushed (Read (readOf l x)) (keeping l (length buf) 0) (e - k)) (ap (take e) g ∙ front-put k buf s e e inside fits (omega arith) m)
         ∙ sym (cond-no (ltb (length u) e) _ _ (le-ltb (length u) e m))
 
   -- take_in: as far as the header goes
@@ -67,10 +68,10 @@ module _ (k : ℕ) (s buf : List ℕ) (inside : k ≤ length buf) where
   stored-as n e = ap (λ (j : ℕ). sets buf k (take (j - k) s)) (sym e)
 
   pub header-waits : length s < 58 - k
-      → (pushed Nothing (keeping (length buf) (k + length s)) (length s) ≡ takenIn (length buf) k (length s) (take k buf ++ s)) × Stored 58
+      → (pushed Nothing (keeping l (length buf) (k + length s)) (length s) ≡ takenIn l (length buf) k (length s) (take k buf ++ s)) × Stored 58
   header-waits h =
       let m : length u < 58 = omega (arith, h, long) in (
-        ap (λ (n : ℕ). pushed Nothing (keeping (length buf) n) (length s)) (sym long) ∙ sym (on-short (length buf) k (length s) u m),
+        ap (λ (n : ℕ). pushed Nothing (keeping l (length buf) n) (length s)) (sym long) ∙ sym (on-short l (length buf) k (length s) u m),
         stored-as 58 (to-header (length buf) k (length s) u (short-fault u m)),
       )
 
@@ -86,10 +87,10 @@ module _ (k : ℕ) (s buf : List ℕ) (inside : k ≤ length buf) where
     number-is = ap (λ (q : HeaderRead). q .number) er ∙ header-read-number out ∙ same .0
 
     pub header-wrong : (r .number ≡ 0 → ⊥)
-        → (pushed (Read (refused (r .number) 0)) (stoppedFeed (length buf)) (58 - k) ≡ takenIn (length buf) k (length s) (take k buf ++ s)) × Stored 58
+        → (pushed (Read (refused (r .number) 0)) (stoppedFeed l (length buf)) (58 - k) ≡ takenIn l (length buf) k (length s) (take k buf ++ s)) × Stored 58
     header-wrong z =
         let y : headerFault u ≡ 0 → ⊥ = λ e. z (number-is ∙ e) in (
-          ap (λ (n : ℕ). pushed (Read (refused n 0)) (stoppedFeed (length buf)) (58 - k)) number-is ∙ sym (on-wrong (length buf) k (length s) u whole y),
+          ap (λ (n : ℕ). pushed (Read (refused n 0)) (stoppedFeed l (length buf)) (58 - k)) number-is ∙ sym (on-wrong l (length buf) k (length s) u whole y),
           stored-as 58 (to-header (length buf) k (length s) u y),
         )
 
@@ -107,10 +108,10 @@ module _ (k : ℕ) (s buf : List ℕ) (inside : k ≤ length buf) where
       end-is = ap (λ (n : ℕ). 58 + n) size-is ∙ same .1
 
       pub header-passes : length buf < 58 + r .«body_size»
-          → (passedOf (length buf) (58 + r .«body_size») (58 + r .«body_size» - k) (length s) ≡ takenIn (length buf) k (length s) (take k buf ++ s)) × Stored 58
+          → (passedOf l (length buf) (58 + r .«body_size») (58 + r .«body_size» - k) (length s) ≡ takenIn l (length buf) k (length s) (take k buf ++ s)) × Stored 58
       header-passes m =
           let n : length buf < endOf u = omega (arith, m, end-is) in (
-            ap (λ (e : ℕ). passedOf (length buf) e (e - k) (length s)) end-is ∙ sym (on-exceeding (length buf) k (length s) u right n),
+            ap (λ (e : ℕ). passedOf l (length buf) e (e - k) (length s)) end-is ∙ sym (on-exceeding l (length buf) k (length s) u right n),
             stored-as 58 (to-exceeding (length buf) k (length s) u right n),
           )
 
@@ -118,16 +119,16 @@ module _ (k : ℕ) (s buf : List ℕ) (inside : k ≤ length buf) where
       out-long = ap length g ∙ length-sets buf k (take (58 - k) s)
 
       pub header-fits : 58 + r .«body_size» ≤ length buf
-          → (fittingOf (length out) k (length s) (take k out ++ s) (58 + r .«body_size») ≡ takenIn (length buf) k (length s) (take k buf ++ s))
+          → (fittingOf l (length out) k (length s) (take k out ++ s) (58 + r .«body_size») ≡ takenIn l (length buf) k (length s) (take k buf ++ s))
           × (sets out k (take (58 + r .«body_size» - k) s) ≡ sets buf k (take (storedTo (length buf) (take k buf ++ s) - k) s))
       header-fits m =
           let n : endOf u ≤ length buf = omega (arith, m, end-is) in
           let e : ℕ = 58 + r .«body_size» in
           let c : take k out ≡ take k buf = ap (take k) g ∙ take-sets k buf k (take (58 - k) s) (omega arith) in (
-            ap₂ (λ (j : ℕ) (l : List ℕ). fittingOf j k (length s) (l ++ s) e) out-long c
-                ∙ ap (fittingOf (length buf) k (length s) u) end-is
-                ∙ sym (on-fitting (length buf) k (length s) u right n),
-            ap (λ (l : List ℕ). sets l k (take (e - k) s)) g
+            ap₂ (λ (j : ℕ) (t : List ℕ). fittingOf l j k (length s) (t ++ s) e) out-long c
+                ∙ ap (fittingOf l (length buf) k (length s) u) end-is
+                ∙ sym (on-fitting l (length buf) k (length s) u right n),
+            ap (λ (b : List ℕ). sets b k (take (e - k) s)) g
                 ∙ sets-over buf k (58 - k) (e - k) s (omega arith)
                 ∙ stored-as e (to-end (length buf) k (length s) u right n ∙ sym end-is),
           )
@@ -144,14 +145,14 @@ module _ (f : Feed) (s buf : List ℕ) where
       (ap (λ (k : ℕ). pushed (Refused k) f 0) e ∙ sym (push-refused f s buf z), sym (buffer-refused f s buf z))
 
   module _ (z : pushFault f (length buf) ≡ 0) where
-    pub push-passes : (f .left ≡ 0 → ⊥) → Is (passedOf (length buf) (f .step) (f .left) (length s)) buf
+    pub push-passes : (f .left ≡ 0 → ⊥) → Is (passedOf (f .layout) (length buf) (f .step) (f .left) (length s)) buf
     push-passes l = (sym (push-passing f s buf z l), sym (buffer-passing f s buf z l))
 
     pub push-keeps : f .left ≡ 0 → (k : ℕ) → k ≡ min (f .kept) (length buf)
-        → Is (takenIn (length buf) k (length s) (take k buf ++ s)) (sets buf k (take (storedTo (length buf) (take k buf ++ s) - k) s))
+        → Is (takenIn (f .layout) (length buf) k (length s) (take k buf ++ s)) (sets buf k (take (storedTo (length buf) (take k buf ++ s) - k) s))
     push-keeps l k e =
         let c : k ≡ length (keptIn f buf) = e ∙ sym (length-take (f .kept) buf) in
         let d : take k buf ≡ keptIn f buf = ap (λ (n : ℕ). take n buf) c ∙ take-kept (f .kept) buf in (
-          ap₂ (λ (n : ℕ) (t : List ℕ). takenIn (length buf) n (length s) (t ++ s)) c d ∙ sym (push-keeping f s buf z l),
+          ap₂ (λ (n : ℕ) (t : List ℕ). takenIn (f .layout) (length buf) n (length s) (t ++ s)) c d ∙ sym (push-keeping f s buf z l),
           ap₂ (λ (n : ℕ) (t : List ℕ). sets buf n (take (storedTo (length buf) (t ++ s) - n) s)) c d ∙ sym (buffer-keeping f s buf z l),
         )

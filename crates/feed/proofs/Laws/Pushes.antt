@@ -291,18 +291,18 @@ module _ (f : Feed) (s buf : List ℕ) where
   message-stored a g _ _ (whole z l y k m) e =
       let w : Whole (take (endOf u) u) = whole-front u y m in
       let n : endOf u ≡ a .step =
-      sym (length-take-le (endOf u) u m) ∙ w .size ∙ sym (read-whole-step (take (endOf u) u) (w .front)) ∙ ap (λ (p : PushAnswer). readIn a p .step) e in
+      sym (length-take-le (endOf u) u m) ∙ w .size ∙ sym (read-whole-step (f .layout) (take (endOf u) u) (w .front)) ∙ ap (λ (p : PushAnswer). readIn a p .step) e in
       subst (λ (j : ℕ). take j (storedIn f s buf (endOf u)) ≡ take j (keptIn f buf ++ s)) n
       (front-stored (f .kept) buf s (endOf u) (endOf u) k (omega arith) m)
 
   pub wrong-front : pushFault f (length buf) ≡ 0 → 58 ≤ length (keptIn f buf ++ s) → (headerFault (keptIn f buf ++ s) ≡ 0 → ⊥)
-      → readOf (storedIn f s buf 58) ≡ refused (headerFault (keptIn f buf ++ s)) 0
+      → readOf (f .layout) (storedIn f s buf 58) ≡ refused (headerFault (keptIn f buf ++ s)) 0
   wrong-front z h y =
       let e = same-front (storedIn f s buf 58) u (front-stored (f .kept) buf s 58 58 (room-large f (length buf) z) (omega arith) h) .0 in
-      header-refused (storedIn f s buf 58) (λ k. y (sym e ∙ k)) ∙ ap (λ (n : ℕ). refused n 0) e
+      header-refused (f .layout) (storedIn f s buf 58) (λ k. y (sym e ∙ k)) ∙ ap (λ (n : ℕ). refused n 0) e
 
   pub read-of-front : headerFault (keptIn f buf ++ s) ≡ 0 → endOf (keptIn f buf ++ s) ≤ length buf → endOf (keptIn f buf ++ s) ≤ length (keptIn f buf ++ s)
-      → readOf (storedIn f s buf (endOf (keptIn f buf ++ s))) ≡ readOf (take (endOf (keptIn f buf ++ s)) (keptIn f buf ++ s))
+      → readOf (f .layout) (storedIn f s buf (endOf (keptIn f buf ++ s))) ≡ readOf (f .layout) (take (endOf (keptIn f buf ++ s)) (keptIn f buf ++ s))
   read-of-front y k m =
       let g : List ℕ = take (endOf u) u in
       let w : Whole g = whole-front u y m in
@@ -310,9 +310,10 @@ module _ (f : Feed) (s buf : List ℕ) where
       sym (read-front g (storedIn f s buf (endOf u)) (w .front)
       (take-all (endOf g) g (omega (arith, w .size))
       ∙ sym (front-stored (f .kept) buf s (endOf u) (endOf u) k (omega arith) m)
-      ∙ ap (λ (n : ℕ). take n (storedIn f s buf (endOf u))) (sym e)))
+      ∙ ap (λ (n : ℕ). take n (storedIn f s buf (endOf u))) (sym e))
+      (f .layout))
 
-  in-front : (a : Answer) → (a .number ≡ 20 → ⊥) → (r : PushResult) (b : List ℕ) → Row f s buf r b → r .answer ≡ Read a → readOf b ≡ a
+  in-front : (a : Answer) → (a .number ≡ 20 → ⊥) → (r : PushResult) (b : List ℕ) → Row f s buf r b → r .answer ≡ Read a → readOf (f .layout) b ≡ a
   in-front a g _ _ (refuses z) e = apart _ _ (λ k. omega (arith, k)) e
   in-front a g _ _ (passes z _) e = apart _ _ (λ k. omega (arith, k)) e
   in-front a g _ _ (passed z l _) e = absurd (g (sym (ap (λ (p : PushAnswer). readIn a p .number) e)))

@@ -23,7 +23,7 @@ returns c =
     let a = c .before .before .before .args in
     c .waits .ensures
     ∙ ap (λ (f : Feed). pushed Nothing f (a .n)) (c .before .passing .ensures)
-    ∙ sym (passed-part (a .room) (a .step) (a .left) (a .n) (c .before .before .if1 .taken))
+    ∙ sym (passed-part (a .layout) (a .room) (a .step) (a .left) (a .n) (c .before .before .if1 .taken))
 
 keeping-requires : tie.Need-keeping-requires
 keeping-requires c κs = search needs
@@ -39,7 +39,7 @@ returns-2 c =
     let a = c .before .before .before .before .args in
     c .answers .ensures
     ∙ ap₂ (λ (f : Feed) (x : Answer). pushed (Read x) f (a .left)) (c .before .before .keeping .ensures) (c .before .refusal .ensures)
-    ∙ sym (passed-whole (a .room) (a .step) (a .left) (a .n) (c .before .before .before .if1 .left))
+    ∙ sym (passed-whole (a .layout) (a .room) (a .step) (a .left) (a .n) (c .before .before .before .if1 .left))
 
 pub pass-spec : {M : Type 1} → statement M
 pass-spec =

@@ -38,7 +38,7 @@ returns c =
     let short : length (a .fragment .now) < a .end - a .kept = omega (arith, c .before .before .if1 .taken, more) in (
       c .waits .ensures
           ∙ ap (λ (f : Feed). pushed Nothing f (length (a .fragment .now))) (c .before .keeping .ensures)
-          ∙ body-waits (a .kept) (a .fragment .now) (a .buffer .now) (start .pre .0) (a .end) (start .pre .1) short,
+          ∙ body-waits (a .layout) (a .kept) (a .fragment .now) (a .buffer .now) (start .pre .0) (a .end) (start .pre .1) short,
       c .before .before .before .before .before .fill .ensures,
     )
 
@@ -63,11 +63,11 @@ returns-2 c =
     let a = start .args in
     let more = c .before .before .before .before .before .before .before .before .before .before .missing .ensures in
     let enough : a .end - a .kept ≤ length (a .fragment .now) = omega (arith, c .before .before .before .before .before .if1 .left, more) in
-    let read = c .before .before .read .ensures ∙ ap readOf (c .before .before .before .first .ensures) in
+    let read = c .before .before .read .ensures ∙ ap (readOf (a .layout)) (c .before .before .before .first .ensures) in
     let filled = c .before .before .before .before .before .before .before .before .fill .ensures in (
       c .answers .ensures
           ∙ (λ i. pushed (Read (read i)) (c .before .keeping2 .ensures i) (more i))
-          ∙ body-reads (a .kept) (a .fragment .now) (a .buffer .now) (start .pre .0) (a .end) (start .pre .1) enough _ filled,
+          ∙ body-reads (a .layout) (a .kept) (a .fragment .now) (a .buffer .now) (start .pre .0) (a .end) (start .pre .1) enough _ filled,
       filled,
     )
 

@@ -35,7 +35,7 @@ returns c =
     let a = start .args in
     let more = c .before .before .before .before .before .before .before .missing .ensures in
     let short : length (a .fragment .now) < 58 - a .kept = omega (arith, c .before .before .if1 .taken, more) in
-    let w = header-waits (a .kept) (a .fragment .now) (a .buffer .now) (start .pre .1) short in (
+    let w = header-waits (a .layout) (a .kept) (a .fragment .now) (a .buffer .now) (start .pre .1) short in (
       c .waits .ensures ∙ ap (λ (f : Feed). pushed Nothing f (length (a .fragment .now))) (c .before .keeping .ensures) ∙ w .0,
       c .before .before .before .before .before .fill .ensures ∙ w .1,
     )
@@ -63,7 +63,7 @@ returns-2 c =
     let enough : 58 - a .kept ≤ length (a .fragment .now) = omega (arith, c .before .before .before .before .before .before .if1 .left, more) in
     let filled = c .before .before .before .before .before .before .before .before .before .fill .ensures in
     let read = c .before .before .before .before .read-header .ensures in
-    let w = header-wrong (a .kept) (a .fragment .now) (a .buffer .now) (start .pre .1) (start .pre .0) enough _ filled _ read (c .before .before .before .if2 .taken) in (
+    let w = header-wrong (a .layout) (a .kept) (a .fragment .now) (a .buffer .now) (start .pre .1) (start .pre .0) enough _ filled _ read (c .before .before .before .if2 .taken) in (
       c .answers .ensures ∙ (λ i. pushed (Read (c .before .refusal .ensures i)) (c .before .before .stopped-feed .ensures i) (more i)) ∙ w .0,
       filled ∙ w .1,
     )
@@ -75,7 +75,7 @@ add-end c =
     let enough : 58 - a .kept ≤ length (a .fragment .now) = omega (arith, c .before .before .before .before .if1 .left, c .before .before .before .before .before .before .before .before .before .missing .ensures) in
     let filled = c .before .before .before .before .before .before .before .fill .ensures in
     let read = c .before .before .read-header .ensures in
-    omega (arith, size-limit (a .kept) (a .fragment .now) (a .buffer .now) (start .pre .1) (start .pre .0) enough _ filled _ read (c .before .if2 .left))
+    omega (arith, size-limit (a .layout) (a .kept) (a .fragment .now) (a .buffer .now) (start .pre .1) (start .pre .0) enough _ filled _ read (c .before .if2 .left))
 
 sub-pass : tie.Need-sub-pass
 sub-pass c = search needs
@@ -93,7 +93,7 @@ returns-3 c =
     let enough : 58 - a .kept ≤ length (a .fragment .now) = omega (arith, c .before .before .before .before .before .before .if1 .left, c .before .before .before .before .before .before .before .before .before .before .before .missing .ensures) in
     let filled = c .before .before .before .before .before .before .before .before .before .fill .ensures in
     let read = c .before .before .before .before .read-header .ensures in
-    let w = header-passes (a .kept) (a .fragment .now) (a .buffer .now) (start .pre .1) (start .pre .0) enough _ filled _ read (c .before .before .before .if2 .left) (c .before .if3 .taken) in
+    let w = header-passes (a .layout) (a .kept) (a .fragment .now) (a .buffer .now) (start .pre .1) (start .pre .0) enough _ filled _ read (c .before .before .before .if2 .left) (c .before .if3 .taken) in
     (c .pass .ensures ∙ w .0, filled ∙ w .1)
 
 take-body-requires : tie.Need-take-body-requires
@@ -109,7 +109,7 @@ returns-4 c =
     let enough : 58 - a .kept ≤ length (a .fragment .now) = omega (arith, c .before .before .before .before .before .before .before .before .before .if1 .left, c .before .before .before .before .before .before .before .before .before .before .before .before .before .before .missing .ensures) in
     let filled = c .before .before .before .before .before .before .before .before .before .before .before .before .fill .ensures in
     let read = c .before .before .before .before .before .before .before .read-header .ensures in
-    let w = header-fits (a .kept) (a .fragment .now) (a .buffer .now) (start .pre .1) (start .pre .0) enough _ filled _ read (c .before .before .before .before .before .before .if2 .left) (c .before .before .before .before .if3 .left) in
+    let w = header-fits (a .layout) (a .kept) (a .fragment .now) (a .buffer .now) (start .pre .1) (start .pre .0) enough _ filled _ read (c .before .before .before .before .before .before .if2 .left) (c .before .before .before .before .if3 .left) in
     let body = c .before .before .take-body .ensures in
     (body .0 ∙ w .0, body .1 ∙ w .1)
 

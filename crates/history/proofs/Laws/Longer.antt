@@ -1,19 +1,21 @@
 -- The history of a sequence of calls, and of one with one call more.
 use Prim.Native.Nat.{ℕ, _+_, _<_, _≤_}
-use mathlib.Core.Path.{_≡_, refl, ap, sym, subst, _∙_}
+use mathlib.Core.Path.{_≡_, refl, ap, ap₂, sym, subst, _∙_}
 use mathlib.Core.Logic.{_⊎_, inl, inr, ⊎-elim}
 use mathlib.Core.Bool.{Bool, true, false, cond}
 use mathlib.Core.List.{List, [], _∷_, _++_, append-nil, append-assoc, foldl-append}
+use mathlib.Core.Option.{Option}
 use native.Mathlib.Omega.{arith}
 use lib.Dec.{ltb}
 use lib.ListN.{length, length-append, List·getD-append}
 use lib.Seq.{take-append-le, take-append-seam, getD-append-seam}
 use borrow.Author.Tests.{eq-eqb, ne-eqb, ltb-true, ltb-false}
+use Rattle.message.specs.declared.Layout.{Layout}
 use Rattle.message.specs.Message.{Message}
 use Rattle.history.specs.Calls.{Call, look, Entry, Note, adding, linking, receiving, nothing, noteOf}
 use Rattle.history.specs.Reading.{oneMessage, Reader}
 use Rattle.history.specs.Places.{firstFree}
-use Rattle.history.specs.Summary.{Summary, noted, numberOn, next, summaryOf, freshSummary}
+use Rattle.history.specs.Summary.{Summary, noted, readOn, numberOn, next, summaryOf, freshSummary}
 use Rattle.history.specs.History.{callAt, summaryBefore, CountsFor, Counted, NoneAfter}
 use Rattle.history.specs.Words.{AddedAt}
 use Rattle.fields.proofs.Laws.Tests.{by-test}
@@ -29,20 +31,20 @@ by-calls P z s cs = from [] z cs
 -- which notes are which
 abbrev pub isReceiving : Note → Bool
 isReceiving (adding e) = false
-isReceiving (linking l) = false
+isReceiving (linking k) = false
 isReceiving (receiving t s) = true
 isReceiving nothing = false
 
 abbrev pub isLinking : Note → Bool
 isLinking (adding e) = false
-isLinking (linking l) = true
+isLinking (linking k) = true
 isLinking (receiving t s) = false
 isLinking nothing = false
 
 -- a call is one message
-pub same-received : (R : Reader) (t u : ℕ) (x y : List ℕ) (m n : Message) → receiving t x ≡ receiving u y → R .read x ≡ oneMessage m → R .read y ≡ oneMessage n
-    → (t ≡ u) × (m ≡ n)
-same-received R t u x y m n e h k = (clocks, messages (sym h ∙ ap (R .read) bytes ∙ k))
+pub same-received : (R : Reader) (o p : Option Layout) (t u : ℕ) (x y : List ℕ) (m n : Message) → o ≡ p → receiving t x ≡ receiving u y
+    → readOn R o x ≡ oneMessage m → readOn R p y ≡ oneMessage n → (t ≡ u) × (m ≡ n)
+same-received R o p t u x y m n z e h k = (clocks, messages (sym h ∙ ap₂ (readOn R) z bytes ∙ k))
   where
     clocks : t ≡ u
     clocks = cc

@@ -4,16 +4,17 @@ use Prim.Native.Nat.{ℕ, _-_, _≤_}
 use mathlib.Core.Path.{_≡_, sym, ap, ap₂, _∙_}
 use mathlib.Core.Logic.{⊎-elim}
 use mathlib.Core.List.{List}
-use mathlib.Core.Option.{some}
+use mathlib.Core.Option.{Option, some}
 use native.Mathlib.Omega.{arith}
 use lib.Dec.{ltb}
 use borrow.Author.Tests.{ltb-false}
 use Rattle.fields.proofs.Laws.Checks.{zero-else, cond-fault}
+use Rattle.message.specs.declared.Layout.{Layout}
 use Rattle.message.specs.Message.{Message}
 use Rattle.history.specs.Calls.{Call, add, linkUp, linkDown, message, look, Entry, noteOf, Colour, green, grey, Answer, shown}
 use Rattle.history.specs.Reading.{Reader}
 use Rattle.history.specs.Summary.{Summary, noted, clockFault, numberOn}
-use Rattle.history.specs.History.{callAt, valueFor, IsColour, NoneCounted, OfLast, Shown, Accepted}
+use Rattle.history.specs.History.{callAt, summaryBefore, valueFor, IsColour, NoneCounted, OfLast, Shown, Accepted}
 use Rattle.history.proofs.Laws.Longer.{same-received}
 
 pub clock-passed : (clock t : ℕ) → clockFault clock t ≡ 0 → clock ≤ t
@@ -31,6 +32,10 @@ module _ (R : Reader) (cs : List Call) (i now : ℕ) (a b : Answer) (S : Shown R
   other-colour green y = T .is-green .1 (S .is-green .0 y)
   other-colour grey y = T .is-grey .1 (S .is-grey .0 y)
 
+  -- the link before the call at a place
+  abbrev linkAt : ℕ → Option Layout
+  linkAt j = summaryBefore R cs j .link .up
+
   both-last : OfLast R cs i now a → OfLast R cs i now b → a ≡ b
   both-last o p =
       let c = o .last .counted .counts-for in
@@ -38,8 +43,8 @@ module _ (R : Reader) (cs : List Call) (i now : ℕ) (a b : Answer) (S : Shown R
       let h : o .place ≤ p .place = p .last .last (o .place) (o .clock) (o .message) (o .last .counted) in
       let k : p .place ≤ o .place = o .last .last (p .place) (p .clock) (p .message) (p .last .counted) in
       let l : o .place ≡ p .place = omega (arith, h, k) in
-      let w = same-received R (o .clock) (p .clock) (c .bytes) (d .bytes) (o .message) (p .message)
-      (sym (c .is) ∙ ap (λ (j : ℕ). noteOf (callAt cs j)) l ∙ d .is) (c .read) (d .read) in
+      let w = same-received R (linkAt (o .place)) (linkAt (p .place)) (o .clock) (p .clock) (c .bytes) (d .bytes) (o .message) (p .message)
+      (ap linkAt l) (sym (c .is) ∙ ap (λ (j : ℕ). noteOf (callAt cs j)) l ∙ d .is) (c .read) (d .read) in
       let y = other-colour (o .colour) (now - o .clock, valueFor (o .message) (o .tile), o .is) in
       o .is ∙ same-shown (o .colour) (p .colour) (o .clock) (p .clock) (o .message) (p .message) (o .tile) (p .tile) (y .0) (y .1) (w .0) (w .1)
       (sym (o .there) ∙ p .there) (sym (y .2) ∙ p .is) ∙ sym (p .is)
@@ -68,7 +73,7 @@ module _ (R : Reader) where
 
   pub row : (c : Call) → Row c
   row (add t n h) = record { rises = λ b z. omega arith; one-answer = λ cs a b. both }
-  row (linkUp t) = record { rises = λ b. clock-passed (b .link .clock) t; one-answer = λ cs a b. both }
+  row (linkUp l t) = record { rises = λ b. clock-passed (b .link .clock) t; one-answer = λ cs a b. both }
   row (linkDown t) = record { rises = λ b. clock-passed (b .link .clock) t; one-answer = λ cs a b. both }
   row (message t s) =
       record {

@@ -4,6 +4,7 @@ use Prim.Native.Nat.{_+_, _-_, _≤_}
 use native.Mathlib.Omega.{arith}
 use lib.ListN.{length, drop, length-drop}
 use borrow.Author.Needs.{needs}
+use Rattle.message.specs.declared.Layout.the-variants.{New}
 use Rattle.message.proofs.Laws.Stream.{step-within}
 use Rattle.listing.proofs.list.Statement.{statement}
 use Rattle.listing.proofs.list.Tie as tie
@@ -20,7 +21,7 @@ list-at-requires c κs = search needs
 loop-holds : tie.Need-loop-holds Inv-loop μ-loop
 loop-holds c =
     let stream = c .before .before .args .stream .now in
-    omega (arith, c .list-at .ensures, step-within (drop 0 stream), length-drop 0 stream)
+    omega (arith, c .list-at .ensures, step-within New (drop 0 stream), length-drop 0 stream)
 
 add-at : tie.Need-add-at Inv-loop μ-loop
 add-at c = search needs
@@ -36,7 +37,7 @@ loop-again c =
     let l = c .before .before .loop in
     let stream = c .before .before .before .before .before .args .stream .now in
     let at = l .at + l .step in
-    omega (arith, c .list-at2 .ensures, step-within (drop at stream), length-drop at stream)
+    omega (arith, c .list-at2 .ensures, step-within New (drop at stream), length-drop at stream)
 
 returns : tie.Need-returns Inv-loop μ-loop
 returns c = search needs

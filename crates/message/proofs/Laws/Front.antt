@@ -15,6 +15,7 @@ use Rattle.header.specs.Header.{Header}
 use Rattle.header.specs.Check as header
 use Rattle.header.specs.Check.{headerOf, headerFault}
 use Rattle.header.proofs.Laws.Front.{header-front, fault-front}
+use Rattle.message.specs.declared.Layout.{Layout}
 use Rattle.message.specs.Check.{bodyChecks, bodyAt, frontFault, numberOf, stepOf, placesOf, refused, accepted, readOf}
 use Rattle.message.proofs.Laws.Stream.{is-some, whole-pass, whole-passed, whole-refused, step-whole, read-step}
 use Rattle.message.proofs.Laws.Read.{front-refused}
@@ -30,14 +31,14 @@ unfolding frontFault
 front-passed s z = let k = zero-else (headerFault s) _ z in (k .0, whole-passed s (k .1))
 
 -- a message that has begun and is not whole
-pub read-begun : (s : List ℕ) → headerFault s ≡ 0 → length s < 58 + headerOf s .bodySize → readOf s ≡ refused 1 0
+pub read-begun : (l : Layout) (s : List ℕ) → headerFault s ≡ 0 → length s < 58 + headerOf s .bodySize → readOf l s ≡ refused 1 0
 unfolding frontFault
-read-begun s z h =
+read-begun l s z h =
     let k : frontFault s ≡ 1 = else-second (headerFault s) _ z ∙ whole-refused s h in
-    front-refused s (is-some (frontFault s) 0 k) ∙ ap (λ (n : ℕ). refused n 0) k
+    front-refused l s (is-some (frontFault s) 0 k) ∙ ap (λ (n : ℕ). refused n 0) k
 
-pub read-whole-step : (s : List ℕ) → frontFault s ≡ 0 → readOf s .step ≡ 58 + headerOf s .bodySize
-read-whole-step s z = read-step s ∙ step-whole s z
+pub read-whole-step : (l : Layout) (s : List ℕ) → frontFault s ≡ 0 → readOf l s .step ≡ 58 + headerOf s .bodySize
+read-whole-step l s z = read-step l s ∙ step-whole s z
 
 -- ---- two streams that have the message at the front in common
 
@@ -59,18 +60,18 @@ module _ (s t : List ℕ) (z : frontFault s ≡ 0) (e : take (58 + headerOf s .b
       let b : headerOf s .bodySize ≡ headerOf t .bodySize = ap (λ (h : Header). h .bodySize) (header-front s t same-header) in
       front-pass t (sym (fault-front s t same-header) ∙ k .0) (omega (arith, k .1, b, length-take n s, length-take n t, ap length e))
 
-  same-number : numberOf s ≡ numberOf t
+  same-number : (l : Layout) → numberOf l s ≡ numberOf l t
   unfolding numberOf
-  same-number =
+  same-number l =
       ap₂ orElse (z ∙ sym also-whole)
-      (ap₂ (λ (h : Header) (b : List ℕ). bodyChecks (h .version) (h .crc) (h .typeText) b) (header-front s t same-header) same-body)
+      (ap₂ (λ (h : Header) (b : List ℕ). bodyChecks l (h .version) (h .crc) (h .typeText) b) (header-front s t same-header) same-body)
 
   same-step : stepOf s ≡ stepOf t
   same-step =
       step-whole s z ∙ ap (λ (h : Header). 58 + h .bodySize) (header-front s t same-header) ∙ sym (step-whole t also-whole)
 
-  pub read-front : readOf s ≡ readOf t
+  pub read-front : (l : Layout) → readOf l s ≡ readOf l t
   unfolding readOf
-  read-front =
+  read-front l =
       let h = header-front s t same-header in
-      λ i. cond (eqb (same-number i) 0) (accepted (header.handed (h i)) (placesOf (h i .version) (same-body i))) (refused (same-number i) (same-step i))
+      λ i. cond (eqb (same-number l i) 0) (accepted (header.handed (h i)) (placesOf l (h i .version) (same-body i))) (refused (same-number l i) (same-step i))

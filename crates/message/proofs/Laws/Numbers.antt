@@ -2,7 +2,7 @@
 use Prim.Native.Nat.{ℕ, zero, suc, _+_, _<_, _≤_}
 use mathlib.Core.Path.{_≡_, refl, sym, ap, ap₂, _∙_, subst}
 use mathlib.Core.Logic.{inl, inr, ⊎-elim}
-use mathlib.Core.Bool.{false}
+use mathlib.Core.Bool.{true, false}
 use mathlib.Core.List.{List, [], append-nil}
 use native.Mathlib.Omega.{arith}
 use native.Mathlib.Nat.{lt-of-not-le}
@@ -11,7 +11,7 @@ use Rattle.fields.specs.Bytes.{Bytes}
 use Rattle.fields.specs.Checks.{orElse}
 use Rattle.fields.specs.Answer.{writtenNumber, writtenCount, roomFault}
 use Rattle.fields.proofs.Laws.Bytes.{bytes-part}
-use Rattle.fields.proofs.Laws.Checks.{zero-else, else-fault, else-second}
+use Rattle.fields.proofs.Laws.Checks.{zero-else, else-fault, else-second, else-same}
 use Rattle.fields.proofs.Laws.Tests.{by-test, by-zero, is-false, true-false}
 use Rattle.fields.proofs.Laws.Answer.{written-wrote, written-number, out-wrote, out-refused}
 use Rattle.crc64.specs.Crc.{crcOf}
@@ -24,155 +24,195 @@ use Rattle.header.specs.Headers.{BeginsWith}
 use Rattle.metadata.specs.Check.{metadataFault}
 use Rattle.metadata.specs.Metadatas.{IsMetadata}
 use Rattle.content.specs.Check.{contentFault, deepest}
+use Rattle.message.specs.declared.Layout.{Layout}
 use Rattle.message.specs.declared.body.Places.{Places}
-use Rattle.message.specs.Body.{Sections, Plain, WellSections}
-use Rattle.message.specs.Message.{Parts, bodyOf, headerFor, encodeParts}
-use Rattle.message.specs.Check.{refused, versionFault, bodyFault, sectionsFault, placesOf, sectionsOf, bodyChecks, bodyAt, frontFault, numberOf, readOf}
-use Rattle.message.specs.Writer.{fitOk, sectionsChecks, writeChecks, writeFault, messageWritten, messageOut}
-use Rattle.message.specs.Bodies.{IsVersion, BreaksExtended}
-use Rattle.message.specs.Numbers.{Whole, Sound, LaidOut, numberAndStep, Refusals, Given, Unfit, ReadBack, WriterNumbers}
+use Rattle.message.specs.Body.{Sections, Plain, MetadataFits, WellSections}
+use Rattle.message.specs.Message.{Parts, headerFor}
+use Rattle.message.specs.Check.{refused, versionFault, bodyFault, sizesFault, sectionsFault, foundFault, placesOf, sectionsOf, bodyChecks, bodyAt, frontFault, numberOf, readOf}
+use Rattle.message.specs.Writer.{bodyGiven, encodeParts, fitOk, sectionsChecks, writeChecks, writeFault, messageWritten, messageOut}
+use Rattle.message.specs.Bodies.{IsVersion, BreaksExtended, Agrees}
+use Rattle.message.specs.Numbers.{Whole, Sound, LaidOut, numberAndStep, Refusals, Given, Unfit, HasIndex, ReadBack, WriterNumbers}
 use Rattle.header.proofs.Laws.Layout.{header-read, header-number}
-use Rattle.header.proofs.Laws.Faults.{names-pass, names-passed, names-broken, limit-pass, header-read-number}
+use Rattle.header.proofs.Laws.Faults.{names-pass, names-passed, names-broken, limit-pass, limit-passed, header-read-number}
 use Rattle.header.proofs.Laws.Headers.{headers}
 use Rattle.metadata.proofs.Laws.Metadatas.{metadatas}
-use Rattle.message.proofs.Laws.Body.{body-well, body-read, extended-refused}
-use Rattle.message.proofs.Laws.Stream.{is-some, whole-refused, version-pass, version-passed, version-refused, checks-version, checks-crc, checks-body, checks-rest, whole-header, whole-body, whole-front, read-refused, read-number, partsAt, handed-parts, number-read}
+use Rattle.message.proofs.Laws.Layout.{fit-metadata, unfit-size, fit-size}
+use Rattle.message.proofs.Laws.Body.{body-well, body-read, body-agreed, body-disagreed, sizes-seven, extended-refused, length-2}
+use Rattle.message.proofs.Laws.Stream.{is-some, whole-refused, version-pass, version-passed, version-refused, checks-version, checks-crc, checks-body, checks-rest, whole-header, whole-body, whole-front, read-refused, read-number, partsAt, handed-parts, number-read, indexOf}
 use Rattle.message.proofs.Laws.Read.{front-refused, header-refused, body-refused}
-use Rattle.message.proofs.Laws.Writer.{plain-pass, plain-passed, sizes-passed, fit-passed, well-fit, sections-version, sections-unfit, sections-rest, write-names, write-texts, write-limit, write-rest, parts-number, checks-sections, writable, parts-read}
+use Rattle.message.proofs.Laws.Writer.{plain-pass, plain-passed, sizes-pass, sizes-passed, written-index, fit-passed, well-fit, sections-version, sections-unfit, sections-rest, write-names, write-texts, write-limit, write-rest, parts-number, checks-sections, writable, parts-read}
 
 -- ---- a refusal before a step is known
 
-header-says : (s : List ℕ) (n : ℕ) → headerRead s ≡ header.refused (suc n) → readOf s ≡ refused (suc n) 0
-header-says s n e =
+header-says : (l : Layout) (s : List ℕ) (n : ℕ) → headerRead s ≡ header.refused (suc n) → readOf l s ≡ refused (suc n) 0
+header-says l s n e =
     let k : headerFault s ≡ suc n = sym (header-read-number s) ∙ ap (λ (r : HeaderRead). r .number) e in
-    header-refused s (is-some (headerFault s) n k) ∙ ap (λ (m : ℕ). refused m 0) k
+    header-refused l s (is-some (headerFault s) n k) ∙ ap (λ (m : ℕ). refused m 0) k
 
-cut-short : (s : List ℕ) (h : Header) → BeginsWith s h → length s < 58 + h .bodySize → readOf s ≡ refused 1 0
+cut-short : (l : Layout) (s : List ℕ) (h : Header) → BeginsWith s h → length s < 58 + h .bodySize → readOf l s ≡ refused 1 0
 unfolding frontFault
-cut-short s h b l =
+cut-short l s h b n =
     let e : headerOf s ≡ h = ap headerOf (sym (b .bytes)) ∙ header-read h (b .rest) (b .well .fits) in
     let z : headerFault s ≡ 0 =
     ap headerFault (sym (b .bytes)) ∙ header-number h (b .rest) (b .well .fits) ∙ limit-pass (h .bodySize) (b .well .size-limit) in
-    let k : length s < 58 + headerOf s .bodySize = subst (λ (g : Header). length s < 58 + g .bodySize) (sym e) l in
+    let k : length s < 58 + headerOf s .bodySize = subst (λ (g : Header). length s < 58 + g .bodySize) (sym e) n in
     let f : frontFault s ≡ 1 = else-second (headerFault s) _ z ∙ whole-refused s k in
-    front-refused s (is-some (frontFault s) 0 f) ∙ ap (λ (m : ℕ). refused m 0) f
+    front-refused l s (is-some (frontFault s) 0 f) ∙ ap (λ (m : ℕ). refused m 0) f
 
 -- ---- a refusal of the whole
 
-module _ (s : List ℕ) (h : Header) (b : List ℕ) (w : Whole s h b) where
-  body-says : (n : ℕ) → bodyChecks (h .version) (h .crc) (h .typeText) b ≡ suc n → readOf s ≡ refused (suc n) (58 + h .bodySize)
+module _ (l : Layout) (s : List ℕ) (h : Header) (b : List ℕ) (w : Whole s h b) where
+  body-says : (n : ℕ) → bodyChecks l (h .version) (h .crc) (h .typeText) b ≡ suc n → readOf l s ≡ refused (suc n) (58 + h .bodySize)
   body-says n e =
       let f : HeaderFits h = w .well .fits in
       let o : frontFault s ≡ 0 =
       ap frontFault (sym (w .front)) ∙ whole-front h b (w .rest) f (w .size) ∙ limit-pass (h .bodySize) (w .well .size-limit) in
       let g : headerOf s ≡ h = ap headerOf (sym (w .front)) ∙ whole-header h b (w .rest) f (w .size) in
       let k : bodyAt s ≡ b = ap bodyAt (sym (w .front)) ∙ whole-body h b (w .rest) f (w .size) in
-      let c : bodyChecks (headerOf s .version) (headerOf s .crc) (headerOf s .typeText) (bodyAt s) ≡ suc n =
-      ap₂ (λ (x : Header) (y : List ℕ). bodyChecks (x .version) (x .crc) (x .typeText) y) g k ∙ e in
-      sym (body-refused s o (suc n) (sym c) (is-some (suc n) n refl)) ∙ ap (λ (x : Header). refused (suc n) (58 + x .bodySize)) g
+      let c : bodyChecks l (headerOf s .version) (headerOf s .crc) (headerOf s .typeText) (bodyAt s) ≡ suc n =
+      ap₂ (λ (x : Header) (y : List ℕ). bodyChecks l (x .version) (x .crc) (x .typeText) y) g k ∙ e in
+      sym (body-refused l s o (suc n) (sym c) (is-some (suc n) n refl)) ∙ ap (λ (x : Header). refused (suc n) (58 + x .bodySize)) g
 
-  says-version : (h .version ≡ 1 → ⊥) → (h .version ≡ 2 → ⊥) → readOf s ≡ refused 4 (58 + h .bodySize)
+  says-version : (h .version ≡ 1 → ⊥) → (h .version ≡ 2 → ⊥) → readOf l s ≡ refused 4 (58 + h .bodySize)
   says-version a c =
-      body-says 3 (sym (checks-version (h .version) (h .crc) (h .typeText) b 4 (sym (version-refused (h .version) a c)) (is-some 4 3 refl)))
+      body-says 3 (sym (checks-version l (h .version) (h .crc) (h .typeText) b 4 (sym (version-refused (h .version) a c)) (is-some 4 3 refl)))
 
-  says-crc : IsVersion (h .version) → (crcOf b ≡ h .crc → ⊥) → readOf s ≡ refused 5 (58 + h .bodySize)
-  says-crc v c = body-says 4 (sym (checks-crc (h .version) (h .crc) (h .typeText) b (version-pass (h .version) v) c))
+  says-crc : IsVersion (h .version) → (crcOf b ≡ h .crc → ⊥) → readOf l s ≡ refused 5 (58 + h .bodySize)
+  says-crc v c = body-says 4 (sym (checks-crc l (h .version) (h .crc) (h .typeText) b (version-pass (h .version) v) c))
 
-  says-extended : Sound h b → h .version ≡ 2 → BreaksExtended b → readOf s ≡ refused 6 (58 + h .bodySize)
+  says-extended : Sound h b → h .version ≡ 2 → BreaksExtended l b → readOf l s ≡ refused 6 (58 + h .bodySize)
   says-extended o v k =
       body-says 5
-      (sym (checks-body (h .version) (h .crc) (h .typeText) b 6 (version-pass (h .version) (o .version)) (o .crc) (sym (extended-refused (h .version) b v k)) (is-some 6 5 refl)))
+      (sym (checks-body l (h .version) (h .crc) (h .typeText) b 6 (version-pass (h .version) (o .version)) (o .crc) (sym (extended-refused l (h .version) b v k)) (is-some 6 5 refl)))
 
-  laid-checks : (x : Sections) → LaidOut h b x → bodyChecks (h .version) (h .crc) (h .typeText) b ≡ orElse (metadataFault (x .metadata)) (contentFault deepest (h .typeText) (x .content))
-  unfolding sectionsFault
-  laid-checks x l =
-      sym (checks-rest (h .version) (h .crc) (h .typeText) b (version-pass (h .version) (l .sound .version)) (l .sound .crc) (ap (bodyFault (h .version)) (sym (l .body)) ∙ body-well (h .version) x (l .well)))
-      ∙ ap (sectionsFault (h .typeText)) (ap (sectionsOf (h .version)) (sym (l .body)) ∙ body-read (h .version) x (l .well))
+  -- a body laid out as sections, with k as the size of the metadata's index
+  module _ (k : ℕ) (x : Sections) (o : LaidOut l h b k x) where
+    read-as : sectionsOf l (h .version) b ≡ x
+    read-as = ap (sectionsOf l (h .version)) (sym (o .body)) ∙ body-read l (h .version) k x (o .well)
 
-  metadata-bytes : (x : Sections) → LaidOut h b x → Bytes (x .metadata)
-  metadata-bytes x l =
-      let p : Places = placesOf (h .version) b in
-      let e : sectionsOf (h .version) b ≡ x = ap (sectionsOf (h .version)) (sym (l .body)) ∙ body-read (h .version) x (l .well) in
-      subst (λ (y : Sections). Bytes (y .metadata)) e (bytes-part (p .«metadata_len») (p .«metadata_at») b (w .bytes))
+    laid-checks : bodyChecks l (h .version) (h .crc) (h .typeText) b
+        ≡ orElse (sizesFault l (h .version) b (x .metadata)) (orElse (metadataFault (x .metadata)) (contentFault deepest (h .typeText) (x .content)))
+    unfolding foundFault sectionsFault
+    laid-checks =
+        sym (checks-rest l (h .version) (h .crc) (h .typeText) b (version-pass (h .version) (o .sound .version)) (o .sound .crc) (ap (bodyFault l (h .version)) (sym (o .body)) ∙ body-well l (h .version) k x (o .well)))
+        ∙ ap (foundFault l (h .version) (h .typeText) b) read-as
 
-  says-metadata : (x : Sections) → LaidOut h b x → (IsMetadata (x .metadata) → ⊥) → readOf s ≡ refused 7 (58 + h .bodySize)
-  says-metadata x l k =
-      let e : metadataFault (x .metadata) ≡ 7 = metadatas .refused (x .metadata) (metadata-bytes x l) k in
-      body-says 6 (laid-checks x l ∙ else-fault (metadataFault (x .metadata)) _ 6 e)
+    metadata-bytes : Bytes (x .metadata)
+    metadata-bytes =
+        let p : Places = placesOf l (h .version) b in
+        subst (λ (y : Sections). Bytes (y .metadata)) read-as (bytes-part (p .«metadata_len») (p .«metadata_at») b (w .bytes))
 
-  says-content : (x : Sections) → LaidOut h b x → IsMetadata (x .metadata) → (contentFault deepest (h .typeText) (x .content) ≡ 0 → ⊥)
-      → readOf s ≡ refused (contentFault deepest (h .typeText) (x .content)) (58 + h .bodySize)
-  says-content x l m k = go (contentFault deepest (h .typeText) (x .content)) refl
-    where
-      checks : bodyChecks (h .version) (h .crc) (h .typeText) b ≡ contentFault deepest (h .typeText) (x .content)
-      checks =
-          laid-checks x l
-          ∙ else-second (metadataFault (x .metadata)) _ (ap metadataFault (sym (m .bytes)) ∙ metadatas .well-accepted (m .metadata) (m .well))
+    -- the sizes agree, or are 7
+    sizes-agreed : Agrees l (h .version) k (x .metadata) → sizesFault l (h .version) b (x .metadata) ≡ 0
+    sizes-agreed a =
+        ap (λ (y : List ℕ). sizesFault l (h .version) y (x .metadata)) (sym (o .body)) ∙ body-agreed l (h .version) k x (o .well) (x .metadata) a
 
-      go : (n : ℕ) → contentFault deepest (h .typeText) (x .content) ≡ n → readOf s ≡ refused (contentFault deepest (h .typeText) (x .content)) (58 + h .bodySize)
-      go zero e = absurd (k e)
-      go (suc n) e = body-says n (checks ∙ e) ∙ ap (λ (j : ℕ). refused j (58 + h .bodySize)) (sym e)
+    says-sizes : (Agrees l (h .version) k (x .metadata) → ⊥) → readOf l s ≡ refused 7 (58 + h .bodySize)
+    says-sizes d =
+        let e : sizesFault l (h .version) b (x .metadata) ≡ 7 =
+        ap (λ (y : List ℕ). sizesFault l (h .version) y (x .metadata)) (sym (o .body)) ∙ body-disagreed l (h .version) k x (o .well) (x .metadata) d in
+        body-says 6 (laid-checks ∙ else-fault (sizesFault l (h .version) b (x .metadata)) _ 6 e)
 
-pub refusals : Refusals
-refusals =
+    says-metadata : (IsMetadata (x .metadata) → ⊥) → readOf l s ≡ refused 7 (58 + h .bodySize)
+    says-metadata d =
+        let e : metadataFault (x .metadata) ≡ 7 = metadatas .refused (x .metadata) metadata-bytes d in
+        let f : orElse (metadataFault (x .metadata)) (contentFault deepest (h .typeText) (x .content)) ≡ 7 = else-fault (metadataFault (x .metadata)) _ 6 e in
+        body-says 6
+        (laid-checks
+        ∙ by-zero (sizesFault l (h .version) b (x .metadata))
+        (λ z. else-second (sizesFault l (h .version) b (x .metadata)) _ z ∙ f)
+        (λ z. else-fault (sizesFault l (h .version) b (x .metadata)) _ 6 (sizes-seven l (h .version) b (x .metadata) z)))
+
+    says-content : IsMetadata (x .metadata) → Agrees l (h .version) k (x .metadata) → (contentFault deepest (h .typeText) (x .content) ≡ 0 → ⊥)
+        → readOf l s ≡ refused (contentFault deepest (h .typeText) (x .content)) (58 + h .bodySize)
+    says-content m a d = go (contentFault deepest (h .typeText) (x .content)) refl
+      where
+        checks : bodyChecks l (h .version) (h .crc) (h .typeText) b ≡ contentFault deepest (h .typeText) (x .content)
+        checks =
+            laid-checks
+            ∙ else-second (sizesFault l (h .version) b (x .metadata)) _ (sizes-agreed a)
+            ∙ else-second (metadataFault (x .metadata)) _ (ap metadataFault (sym (m .bytes)) ∙ metadatas .well-accepted (m .metadata) (m .well))
+
+        go : (n : ℕ) → contentFault deepest (h .typeText) (x .content) ≡ n → readOf l s ≡ refused (contentFault deepest (h .typeText) (x .content)) (58 + h .bodySize)
+        go zero e = absurd (d e)
+        go (suc n) e = body-says n (checks ∙ e) ∙ ap (λ (j : ℕ). refused j (58 + h .bodySize)) (sym e)
+
+pub refusals : (l : Layout) → Refusals l
+refusals l =
     record {
-      short = λ s h. header-says s 0 (headers .short s h);
-      no-text = λ s h k. header-says s 1 (headers .no-text s h k);
-      too-long = λ s h k l. header-says s 2 (headers .too-long s h k l);
-      cut-short = cut-short;
-      version = says-version;
-      crc = says-crc;
-      extended = says-extended;
-      metadata = λ s h b x w l k. says-metadata s h b w x l k;
-      content = λ s h b x w l m k. says-content s h b w x l m k;
-      nothing-handed = λ s h. let e = read-refused s (λ z. h (read-number s ∙ z)) in e ∙ sym (ap numberAndStep e);
+      short = λ s h. header-says l s 0 (headers .short s h);
+      no-text = λ s h k. header-says l s 1 (headers .no-text s h k);
+      too-long = λ s h k o. header-says l s 2 (headers .too-long s h k o);
+      cut-short = cut-short l;
+      version = says-version l;
+      crc = says-crc l;
+      extended = says-extended l;
+      metadata = λ s h b k x w o d. says-metadata l s h b w k x o d;
+      sizes = λ s h b k x w o d. says-sizes l s h b w k x o d;
+      content = λ s h b k x w o m a d. says-content l s h b w k x o m a d;
+      nothing-handed = λ s h. let e = read-refused l s (λ z. h (read-number l s ∙ z)) in e ∙ sym (ap numberAndStep e);
     }
 
 -- ---- the writer
 
-number-fault : (p : Parts) (room : ℕ) → writtenNumber (messageWritten p room) ≡ writeFault p room
+number-fault : (l : Layout) (p : Parts) (room : ℕ) → writtenNumber (messageWritten l p room) ≡ writeFault l p room
 unfolding messageWritten
-number-fault p room = written-number (writeFault p room) (length (encodeParts p))
+number-fault l p room = written-number (writeFault l p room) (length (encodeParts l p))
 
-checks-say : (p : Parts) (room n : ℕ) → writeChecks p ≡ suc n → writtenNumber (messageWritten p room) ≡ suc n
+checks-say : (l : Layout) (p : Parts) (room n : ℕ) → writeChecks l p ≡ suc n → writtenNumber (messageWritten l p room) ≡ suc n
 unfolding writeFault
-checks-say p room n e = number-fault p room ∙ else-fault (writeChecks p) _ n e
+checks-say l p room n e = number-fault l p room ∙ else-fault (writeChecks l p) _ n e
 
-says-names : (p : Parts) (room : ℕ) → (WellTexts (p .typeText) (p .deviceName) → ⊥) → writtenNumber (messageWritten p room) ≡ 2
-says-names p room h =
-    checks-say p room 1 (sym (write-names p 2 (sym (names-broken (p .typeText) (p .deviceName) h)) (is-some 2 1 refl)))
+says-names : (l : Layout) (p : Parts) (room : ℕ) → (WellTexts (p .typeText) (p .deviceName) → ⊥) → writtenNumber (messageWritten l p room) ≡ 2
+says-names l p room h =
+    checks-say l p room 1 (sym (write-names l p 2 (sym (names-broken (p .typeText) (p .deviceName) h)) (is-some 2 1 refl)))
 
-says-too-long : (p : Parts) (room : ℕ) → WellTexts (p .typeText) (p .deviceName) → limit < length (bodyOf p)
-    → writtenNumber (messageWritten p room) ≡ 3
-says-too-long p room t h = checks-say p room 2 (sym (write-limit p (names-pass (p .typeText) (p .deviceName) t) h))
+says-too-long : (l : Layout) (p : Parts) (room : ℕ) → WellTexts (p .typeText) (p .deviceName) → limit < length (bodyGiven l p)
+    → writtenNumber (messageWritten l p room) ≡ 3
+says-too-long l p room t h = checks-say l p room 2 (sym (write-limit l p (names-pass (p .typeText) (p .deviceName) t) h))
 
 -- sections that don't fit are refused, others are those of a body
-unfit-version : (v : ℕ) (x : Sections) → Unfit v x → IsVersion v
-unfit-version v x u = ⊎-elim (λ e. inl (e .0)) (λ e. inr (e .0)) u
+unfit-version : (l : Layout) (v : ℕ) (x : Sections) → Unfit l v x → IsVersion v
+unfit-version l v x u = ⊎-elim (λ e. inl (e .0)) (λ e. inr (e .0)) u
 
-unfit-refused : (v : ℕ) (x : Sections) → Unfit v x → fitOk v x ≡ false
-unfit-refused v x u =
-    is-false (fitOk v x)
+unfit-refused : (l : Layout) (v : ℕ) (x : Sections) → Unfit l v x → fitOk l v x ≡ false
+unfit-refused l v x u =
+    is-false (fitOk l v x)
     (λ k.
-    ⊎-elim (λ e. e .1 (plain-passed v x (λ f. omega (arith, e .0, f)) k))
-    (λ e. let q = sizes-passed v x (e .0) k in ⊎-elim (λ a. omega (arith, q .0)) (λ a. omega (arith, q .1)) (e .1))
+    ⊎-elim (λ e. e .1 (plain-passed l v x (λ f. omega (arith, e .0, f)) k))
+    (λ e. let q = sizes-passed l v x (e .0) k in ⊎-elim (λ a. omega (arith, q .0)) (λ a. unfit-size l (x .metadata) a (q .1)) (e .1))
     u)
 
-says-unfit : (p : Parts) (room : ℕ) → WellTexts (p .typeText) (p .deviceName) → length (bodyOf p) ≤ limit → Unfit (p .version) (p .sections)
-    → writtenNumber (messageWritten p room) ≡ 6
-says-unfit p room t l u =
-    checks-say p room 5
-    (sym (write-rest p (names-pass (p .typeText) (p .deviceName) t) l)
-    ∙ sym (sections-unfit (p .version) (p .typeText) (p .sections) (version-pass (p .version) (unfit-version (p .version) (p .sections) u)) (unfit-refused (p .version) (p .sections) u)))
+says-unfit : (l : Layout) (p : Parts) (room : ℕ) → WellTexts (p .typeText) (p .deviceName) → length (bodyGiven l p) ≤ limit → Unfit l (p .version) (p .sections)
+    → writtenNumber (messageWritten l p room) ≡ 6
+says-unfit l p room t n u =
+    checks-say l p room 5
+    (sym (write-rest l p (names-pass (p .typeText) (p .deviceName) t) n)
+    ∙ sym (sections-unfit l (p .version) (p .typeText) (p .sections) (version-pass (p .version) (unfit-version l (p .version) (p .sections) u)) (unfit-refused l (p .version) (p .sections) u)))
 
-fit-plain : (v : ℕ) (x : Sections) → v ≡ 1 → (Unfit v x → ⊥) → Plain x
-fit-plain v x e h =
+fit-plain : (l : Layout) (v : ℕ) (x : Sections) → v ≡ 1 → (Unfit l v x → ⊥) → Plain x
+fit-plain l v x e h =
     let two : v ≡ 2 → ⊥ = λ f. omega (arith, e, f) in
-    by-test (fitOk v x) (plain-passed v x two) (λ k. absurd (h (inl (e, λ p. true-false (fitOk v x) (plain-pass v x two p) k))))
+    by-test (fitOk l v x) (plain-passed l v x two) (λ k. absurd (h (inl (e, λ p. true-false (fitOk l v x) (plain-pass l v x two p) k))))
 
-fit-well : (p : Parts) → Given p → IsVersion (p .version) → (Unfit (p .version) (p .sections) → ⊥) → WellSections (p .version) (p .sections)
-fit-well p g o h =
-    ⊎-elim (λ e. inl (e, fit-plain (p .version) (p .sections) e h))
+-- what is not unfit passes
+fit-ok : (l : Layout) (v : ℕ) (x : Sections) → IsVersion v → (Unfit l v x → ⊥) → fitOk l v x ≡ true
+fit-ok l v x o h =
+    ⊎-elim (λ e. plain-pass l v x (λ f. omega (arith, e, f)) (fit-plain l v x e h))
+    (λ e. sizes-pass l v x e (omega (arith, lt-of-not-le (λ k. h (inr (e, inl k))))) (fit-size l (x .metadata) (λ k. h (inr (e, inr k)))))
+    o
+
+-- n: the body keeps the limit
+fit-sizes : (l : Layout) (p : Parts) → p .version ≡ 2 → length (bodyGiven l p) ≤ limit → (Unfit l (p .version) (p .sections) → ⊥)
+    → HasIndex l (p .version) (p .sections .metadata) → MetadataFits l (indexOf p) (length (p .sections .metadata))
+fit-sizes l p e n h i =
+    let x : Sections = p .sections in
+    fit-metadata l (p .version) (x .metadata) e (fit-size l (x .metadata) (λ k. h (inr (e, inr k)))) i (omega (arith, length-2 l (p .version) (indexOf p) x e, n))
+
+fit-well : (l : Layout) (p : Parts) → Given l p → IsVersion (p .version) → length (bodyGiven l p) ≤ limit → (Unfit l (p .version) (p .sections) → ⊥)
+    → HasIndex l (p .version) (p .sections .metadata) → WellSections l (p .version) (indexOf p) (p .sections)
+fit-well l p g o n h i =
+    ⊎-elim (λ e. inl (e, fit-plain l (p .version) (p .sections) e h))
     (λ e.
     inr (
       e,
@@ -180,65 +220,87 @@ fit-well p g o h =
         id-fits = g .id-fits;
         further-bytes = g .further-bytes;
         further-fits = lt-of-not-le (λ k. h (inr (e, inl k)));
-        metadata-fits = lt-of-not-le (λ k. h (inr (e, inr k)));
+        metadata-fits = fit-sizes l p e n h i;
       },
     ))
     o
 
 -- of sections that fit, the writer's checks are the reader's
-same-checks : (p : Parts) → Given p → (Unfit (p .version) (p .sections) → ⊥)
-    → sectionsChecks (p .version) (p .typeText) (p .sections) ≡ bodyChecks (p .version) (crcOf (bodyOf p)) (p .typeText) (bodyOf p)
-same-checks p g h =
+same-checks : (l : Layout) (p : Parts) → Given l p → (Unfit l (p .version) (p .sections) → ⊥) → HasIndex l (p .version) (p .sections .metadata)
+    → length (bodyGiven l p) ≤ limit
+    → sectionsChecks l (p .version) (p .typeText) (p .sections) ≡ bodyChecks l (p .version) (crcOf (bodyGiven l p)) (p .typeText) (bodyGiven l p)
+same-checks l p g h i n =
     by-zero (versionFault (p .version))
     (λ e.
-    let w : WellSections (p .version) (p .sections) = fit-well p g (version-passed (p .version) e) h in
-    sym (sections-rest (p .version) (p .typeText) (p .sections) e (fit-passed (p .version) (p .sections) (well-fit (p .version) (p .sections) w)))
-    ∙ sym (checks-sections p w))
+    let w : WellSections l (p .version) (indexOf p) (p .sections) = fit-well l p g (version-passed (p .version) e) n h i in
+    sym (sections-rest l (p .version) (p .typeText) (p .sections) e (fit-passed l (p .version) (p .sections) (well-fit l (p .version) (p .sections) w)))
+    ∙ sym (checks-sections l (indexOf p) p w refl))
     (λ z.
-    sym (sections-version (p .version) (p .typeText) (p .sections) (versionFault (p .version)) refl z)
-    ∙ checks-version (p .version) (crcOf (bodyOf p)) (p .typeText) (bodyOf p) (versionFault (p .version)) refl z)
+    sym (sections-version l (p .version) (p .typeText) (p .sections) (versionFault (p .version)) refl z)
+    ∙ checks-version l (p .version) (crcOf (bodyGiven l p)) (p .typeText) (bodyGiven l p) (versionFault (p .version)) refl z)
 
-given-header : (p : Parts) → Given p → WellTexts (p .typeText) (p .deviceName) → HeaderFits (headerFor p)
-given-header p g t =
-    record { version-fits = g .version-fits; texts = t; stamp-fits = g .stamp-fits; size-fits = g .body-fits; crc-fits = crc-lt (bodyOf p) }
+given-header : (l : Layout) (p : Parts) → Given l p → WellTexts (p .typeText) (p .deviceName) → HeaderFits (headerFor l (indexOf p) p)
+given-header l p g t =
+    record { version-fits = g .version-fits; texts = t; stamp-fits = g .stamp-fits; size-fits = g .body-fits; crc-fits = crc-lt (bodyGiven l p) }
 
-says-reader : (p : Parts) (room : ℕ) → Given p → WellTexts (p .typeText) (p .deviceName) → (Unfit (p .version) (p .sections) → ⊥)
-    → writtenNumber (messageWritten p room) ≡ orElse (readOf (encodeParts p) .number) (roomFault (length (encodeParts p)) room)
+says-reader : (l : Layout) (p : Parts) (room : ℕ) → Given l p → WellTexts (p .typeText) (p .deviceName) → (Unfit l (p .version) (p .sections) → ⊥)
+    → HasIndex l (p .version) (p .sections .metadata)
+    → writtenNumber (messageWritten l p room) ≡ orElse (readOf l (encodeParts l p) .number) (roomFault (length (encodeParts l p)) room)
 unfolding writeFault
-says-reader p room g t h =
-    let k : writeChecks p ≡ readOf (encodeParts p) .number =
-    write-texts p (names-pass (p .typeText) (p .deviceName) t)
-    ∙ ap (orElse (limitFault (length (bodyOf p)))) (same-checks p g h)
-    ∙ sym (parts-number p [] (given-header p g t))
-    ∙ ap numberOf (append-nil (encodeParts p))
-    ∙ sym (read-number (encodeParts p)) in
-    number-fault p room ∙ ap (λ (n : ℕ). orElse n (roomFault (length (encodeParts p)) room)) k
+says-reader l p room g t h i =
+    let k : writeChecks l p ≡ readOf l (encodeParts l p) .number =
+    write-texts l p (names-pass (p .typeText) (p .deviceName) t)
+    ∙ else-same (limitFault (length (bodyGiven l p))) _ _ (λ z. same-checks l p g h i (limit-passed (length (bodyGiven l p)) z))
+    ∙ sym (parts-number l (indexOf p) p [] (given-header l p g t))
+    ∙ ap (numberOf l) (append-nil (encodeParts l p))
+    ∙ sym (read-number l (encodeParts l p)) in
+    number-fault l p room ∙ ap (λ (n : ℕ). orElse n (roomFault (length (encodeParts l p)) room)) k
 
-says-untouched : (p : Parts) (out : List ℕ) → (writtenNumber (messageWritten p (length out)) ≡ 0 → ⊥) → messageOut p out ≡ out
+says-no-metadata : (l : Layout) (p : Parts) (room : ℕ) → WellTexts (p .typeText) (p .deviceName) → length (bodyGiven l p) ≤ limit → IsVersion (p .version)
+    → (Unfit l (p .version) (p .sections) → ⊥) → Bytes (p .sections .metadata) → (IsMetadata (p .sections .metadata) → ⊥)
+    → writtenNumber (messageWritten l p room) ≡ 7
+unfolding sectionsFault
+says-no-metadata l p room t n o h b d =
+    let x : Sections = p .sections in
+    let e : metadataFault (x .metadata) ≡ 7 = metadatas .refused (x .metadata) b d in
+    checks-say l p room 6
+    (sym (write-rest l p (names-pass (p .typeText) (p .deviceName) t) n)
+    ∙ sym (sections-rest l (p .version) (p .typeText) x (version-pass (p .version) o) (fit-ok l (p .version) x o h))
+    ∙ else-fault (metadataFault (x .metadata)) _ 6 e)
+
+says-untouched : (l : Layout) (p : Parts) (out : List ℕ) → (writtenNumber (messageWritten l p (length out)) ≡ 0 → ⊥) → messageOut l p out ≡ out
 unfolding messageOut
-says-untouched p out h =
-    out-refused (writeFault p (length out)) (encodeParts p) out (λ z. h (number-fault p (length out) ∙ z))
+says-untouched l p out h =
+    out-refused (writeFault l p (length out)) (encodeParts l p) out (λ z. h (number-fault l p (length out) ∙ z))
 
-says-read-back : (p : Parts) (out : List ℕ) → Given p → writtenNumber (messageWritten p (length out)) ≡ 0 → ReadBack p out
+says-read-back : (l : Layout) (p : Parts) (out : List ℕ) → Given l p → writtenNumber (messageWritten l p (length out)) ≡ 0 → ReadBack l p out
 unfolding messageWritten messageOut writeFault
-says-read-back p out g h =
-    let z : writeFault p (length out) ≡ 0 = sym (number-fault p (length out)) ∙ h in
-    let w = writable p (zero-else (writeChecks p) _ z .0) in
+says-read-back l p out g h =
+    let z : writeFault l p (length out) ≡ 0 = sym (number-fault l p (length out)) ∙ h in
+    let w = writable l p (zero-else (writeChecks l p) _ z .0) in
     let t = names-passed (p .typeText) (p .deviceName) (w .names) in
-    let fit : Unfit (p .version) (p .sections) → ⊥ =
-    λ u. true-false (fitOk (p .version) (p .sections)) (w .fit) (unfit-refused (p .version) (p .sections) u) in
-    let a : readOf (encodeParts p) .number ≡ 0 =
-    zero-else (readOf (encodeParts p) .number) _ (sym (says-reader p (length out) g t fit) ∙ h) .0 in
+    let fit : Unfit l (p .version) (p .sections) → ⊥ =
+    λ u. true-false (fitOk l (p .version) (p .sections)) (w .fit) (unfit-refused l (p .version) (p .sections) u) in
+    let a : readOf l (encodeParts l p) .number ≡ 0 =
+    zero-else (readOf l (encodeParts l p) .number) _ (sym (says-reader l p (length out) g t fit (written-index l p w)) ∙ h) .0 in
     record {
-      count = ap writtenCount (written-wrote (writeFault p (length out)) (length (encodeParts p)) z);
-      bytes = out-wrote (writeFault p (length out)) (encodeParts p) out z;
+      count = ap writtenCount (written-wrote (writeFault l p (length out)) (length (encodeParts l p)) z);
+      bytes = out-wrote (writeFault l p (length out)) (encodeParts l p) out z;
       accepted = a;
       handed-out =
-          handed-parts (encodeParts p) (number-read (encodeParts p) a)
-          ∙ ap partsAt (sym (append-nil (encodeParts p)))
-          ∙ parts-read p [] (given-header p g t) (fit-well p g (w .version) fit);
+          handed-parts l (encodeParts l p) (number-read l (encodeParts l p) a)
+          ∙ ap (partsAt l) (sym (append-nil (encodeParts l p)))
+          ∙ parts-read l (indexOf p) p [] (given-header l p g t) (fit-well l p g (w .version) (w .short) fit (written-index l p w));
     }
 
-pub writer-numbers : WriterNumbers
-writer-numbers =
-    record { names = says-names; too-long = says-too-long; unfit = says-unfit; as-reader = says-reader; untouched = says-untouched; read-back = says-read-back }
+pub writer-numbers : (l : Layout) → WriterNumbers l
+writer-numbers l =
+    record {
+      names = says-names l;
+      too-long = says-too-long l;
+      unfit = says-unfit l;
+      no-metadata = says-no-metadata l;
+      as-reader = says-reader l;
+      untouched = says-untouched l;
+      read-back = says-read-back l;
+    }

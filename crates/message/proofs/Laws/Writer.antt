@@ -22,48 +22,55 @@ use Rattle.crc64.specs.Crc.{crcOf}
 use Rattle.header.specs.Header.{Header, HeaderFits, encodeHeader, limit}
 use Rattle.header.specs.Check.{headerOf, namesFault, limitFault, headerOut}
 use Rattle.header.specs.Check as header
-use Rattle.message.specs.Body.{Sections, Plain, WellSections, encodeBody}
-use Rattle.message.specs.Message.{Parts, bodyOf, headerFor, encodeParts}
-use Rattle.message.specs.Check.{versionFault, sectionsFault, sectionsOf, bodyChecks, bodyAt, numberOf}
-use Rattle.message.specs.Writer.{bodyLength, fits, fitOk, fitFault, sectionsChecks, writeChecks, writeFault, messageWritten, messageOut}
+use Rattle.metadata.specs.Check.{indexIn, metadataFault}
+use Rattle.metadata.proofs.Laws.Metadatas.{metadatas}
+use Rattle.message.specs.declared.Layout.{Layout}
+use Rattle.message.specs.Body.{Sections, Plain, MetadataFits, WellSections, encodeBody}
+use Rattle.message.specs.Message.{Parts, bodyOf, headerFor, encodeWith}
+use Rattle.message.specs.Check.{versionFault, sizesFault, sectionsFault, foundFault, sectionsOf, bodyChecks, bodyAt, numberOf}
+use Rattle.message.specs.Writer.{bodyGiven, encodeParts, bodyLength, sizeFits, fits, fitOk, fitFault, sectionsChecks, writeChecks, writeFault, messageWritten, messageOut}
 use Rattle.message.specs.Bodies.{IsVersion}
+use Rattle.message.specs.Numbers.{HasIndex}
 use Rattle.header.proofs.Laws.Layout.{length-header}
 use Rattle.header.proofs.Laws.Writer.{write-room, out-header}
 use Rattle.header.proofs.Laws.Faults.{limit-pass, limit-passed, limit-refused}
-use Rattle.message.proofs.Laws.Body.{body-well, body-read, length-1, length-2}
-use Rattle.message.proofs.Laws.Stream.{version-pass, version-passed, checks-rest, whole-number, partsAt, whole-header, whole-body}
+use Rattle.message.proofs.Laws.Layout.{agrees-same, fits-well, fit-metadata, has-index}
+use Rattle.message.proofs.Laws.Body.{body-well, body-read, body-agreed, length-1, length-2}
+use Rattle.message.proofs.Laws.Stream.{version-pass, version-passed, checks-rest, whole-number, partsAt, whole-header, whole-body, indexOf}
 
 -- ---- check 6
 
-fit-1 : (v : ℕ) (x : Sections) → (v ≡ 2 → ⊥) → fitOk v x ≡ (eqb (x .id) 0 && (eqb (length (x .further)) 0 && eqb (length (x .metadata)) 0))
+fit-1 : (l : Layout) (v : ℕ) (x : Sections) → (v ≡ 2 → ⊥)
+    → fitOk l v x ≡ (eqb (x .id) 0 && (eqb (length (x .further)) 0 && eqb (length (x .metadata)) 0))
 unfolding fits
-fit-1 v x h = simp (ne-eqb v 2 h)
+fit-1 l v x h = simp (ne-eqb v 2 h)
 
-fit-2 : (v : ℕ) (x : Sections) → v ≡ 2 → fitOk v x ≡ (leb (12 + length (x .further)) 65535 && leb (length (x .metadata)) 65535)
+fit-2 : (l : Layout) (v : ℕ) (x : Sections) → v ≡ 2
+    → fitOk l v x ≡ (leb (12 + length (x .further)) 65535 && sizeFits l (indexIn (x .metadata)) (length (x .metadata)))
 unfolding fits
-fit-2 v x h = simp (eq-eqb v 2 h)
+fit-2 l v x h = simp (eq-eqb v 2 h)
 
 -- the same test by test, as the code makes it
-module _ (v i f m : ℕ) where
-  pub fits-long : v ≡ 2 → 65535 < 12 + f → fits v i f m ≡ false
+module _ (l : Layout) (v i f k m : ℕ) where
+  pub fits-long : v ≡ 2 → 65535 < 12 + f → fits l v i f k m ≡ false
   unfolding fits
   fits-long e h = simp (eq-eqb v 2 e, lt-leb (12 + f) 65535 h)
 
-  pub fits-rest : v ≡ 2 → 12 + f ≤ 65535 → fits v i f m ≡ leb m 65535
+  pub fits-rest : v ≡ 2 → 12 + f ≤ 65535 → fits l v i f k m ≡ sizeFits l k m
   unfolding fits
   fits-rest e h = simp (eq-eqb v 2 e, le-leb (12 + f) 65535 h)
 
-  pub fits-id : (v ≡ 2 → ⊥) → (i ≡ 0 → ⊥) → fits v i f m ≡ false
+  pub fits-id : (v ≡ 2 → ⊥) → (i ≡ 0 → ⊥) → fits l v i f k m ≡ false
   unfolding fits
   fits-id e h = simp (ne-eqb v 2 e, ne-eqb i 0 h)
 
-  pub fits-further : (v ≡ 2 → ⊥) → i ≡ 0 → (f ≡ 0 → ⊥) → fits v i f m ≡ false
+  pub fits-further : (v ≡ 2 → ⊥) → i ≡ 0 → (f ≡ 0 → ⊥) → fits l v i f k m ≡ false
   unfolding fits
-  fits-further e h k = simp (ne-eqb v 2 e, eq-eqb i 0 h, ne-eqb f 0 k)
+  fits-further e h n = simp (ne-eqb v 2 e, eq-eqb i 0 h, ne-eqb f 0 n)
 
-  pub fits-none : (v ≡ 2 → ⊥) → i ≡ 0 → f ≡ 0 → fits v i f m ≡ eqb m 0
+  pub fits-none : (v ≡ 2 → ⊥) → i ≡ 0 → f ≡ 0 → fits l v i f k m ≡ eqb m 0
   unfolding fits
-  fits-none e h k = simp (ne-eqb v 2 e, eq-eqb i 0 h, eq-eqb f 0 k)
+  fits-none e h n = simp (ne-eqb v 2 e, eq-eqb i 0 h, eq-eqb f 0 n)
 
 -- ---- the length of a body
 
@@ -82,30 +89,30 @@ module _ (v f c m : ℕ) where
       go true = omega arith
       go false = omega arith
 
-pub length-body : (v : ℕ) (x : Sections) → length (encodeBody v x) ≡ bodyLength v (length (x .further)) (length (x .content)) (length (x .metadata))
-length-body v x =
+length-body : (l : Layout) (v j : ℕ) (x : Sections) → length (encodeBody l v j x) ≡ bodyLength v (length (x .further)) (length (x .content)) (length (x .metadata))
+length-body l v j x =
     by-test (eqb v 2)
     (λ e.
     let k : v ≡ 2 = eqb-true v 2 e in
-    length-2 v x k ∙ sym (long-2 v (length (x .further)) (length (x .content)) (length (x .metadata)) k))
+    length-2 l v j x k ∙ sym (long-2 v (length (x .further)) (length (x .content)) (length (x .metadata)) k))
     (λ e.
     let k : v ≡ 2 → ⊥ = eqb-false v 2 e in
-    length-1 v x k ∙ sym (long-1 v (length (x .further)) (length (x .content)) (length (x .metadata)) k))
+    length-1 l v j x k ∙ sym (long-1 v (length (x .further)) (length (x .content)) (length (x .metadata)) k))
 
 empty : (s : List ℕ) → length s ≡ 0 → s ≡ []
 empty s h = sym (take-all 0 s (omega arith))
 
 -- V 1
-pub plain-pass : (v : ℕ) (x : Sections) → (v ≡ 2 → ⊥) → Plain x → fitOk v x ≡ true
-plain-pass v x h p =
-    fit-1 v x h
+pub plain-pass : (l : Layout) (v : ℕ) (x : Sections) → (v ≡ 2 → ⊥) → Plain x → fitOk l v x ≡ true
+plain-pass l v x h p =
+    fit-1 l v x h
     ∙ and-join (eqb (x .id) 0) _ (eq-eqb (x .id) 0 (p .no-id))
     (and-join (eqb (length (x .further)) 0) _ (eq-eqb (length (x .further)) 0 (ap length (p .no-further)))
     (eq-eqb (length (x .metadata)) 0 (ap length (p .no-metadata))))
 
-pub plain-passed : (v : ℕ) (x : Sections) → (v ≡ 2 → ⊥) → fitOk v x ≡ true → Plain x
-plain-passed v x h k =
-    let a = and-split (eqb (x .id) 0) _ (sym (fit-1 v x h) ∙ k) in
+pub plain-passed : (l : Layout) (v : ℕ) (x : Sections) → (v ≡ 2 → ⊥) → fitOk l v x ≡ true → Plain x
+plain-passed l v x h k =
+    let a = and-split (eqb (x .id) 0) _ (sym (fit-1 l v x h) ∙ k) in
     let b = and-split (eqb (length (x .further)) 0) _ (a .1) in
     record {
       no-id = eqb-true _ _ (a .0);
@@ -114,53 +121,56 @@ plain-passed v x h k =
     }
 
 -- V 2
-sizes-pass : (v : ℕ) (x : Sections) → v ≡ 2 → 12 + length (x .further) ≤ 65535 → length (x .metadata) ≤ 65535 → fitOk v x ≡ true
-sizes-pass v x h a b =
-    fit-2 v x h ∙ and-join (leb (12 + length (x .further)) 65535) _ (le-leb (12 + length (x .further)) 65535 a) (le-leb (length (x .metadata)) 65535 b)
+pub sizes-pass : (l : Layout) (v : ℕ) (x : Sections) → v ≡ 2 → 12 + length (x .further) ≤ 65535
+    → sizeFits l (indexIn (x .metadata)) (length (x .metadata)) ≡ true → fitOk l v x ≡ true
+sizes-pass l v x h a b = fit-2 l v x h ∙ and-join (leb (12 + length (x .further)) 65535) _ (le-leb (12 + length (x .further)) 65535 a) b
 
-pub sizes-passed : (v : ℕ) (x : Sections) → v ≡ 2 → fitOk v x ≡ true → (12 + length (x .further) ≤ 65535) × (length (x .metadata) ≤ 65535)
-sizes-passed v x h k =
-    let a = and-split (leb (12 + length (x .further)) 65535) _ (sym (fit-2 v x h) ∙ k) in
-    (leb-true _ _ (a .0), leb-true _ _ (a .1))
+pub sizes-passed : (l : Layout) (v : ℕ) (x : Sections) → v ≡ 2 → fitOk l v x ≡ true
+    → (12 + length (x .further) ≤ 65535) × (sizeFits l (indexIn (x .metadata)) (length (x .metadata)) ≡ true)
+sizes-passed l v x h k =
+    let a = and-split (leb (12 + length (x .further)) 65535) _ (sym (fit-2 l v x h) ∙ k) in
+    (leb-true _ _ (a .0), a .1)
 
-fit-pass : (v : ℕ) (x : Sections) → fitOk v x ≡ true → fitFault v x ≡ 0
+fit-pass : (l : Layout) (v : ℕ) (x : Sections) → fitOk l v x ≡ true → fitFault l v x ≡ 0
 unfolding fitFault
-fit-pass v x h = ap (λ (t : Bool). cond t 0 6) h
+fit-pass l v x h = ap (λ (t : Bool). cond t 0 6) h
 
-pub fit-passed : (v : ℕ) (x : Sections) → fitFault v x ≡ 0 → fitOk v x ≡ true
+pub fit-passed : (l : Layout) (v : ℕ) (x : Sections) → fitFault l v x ≡ 0 → fitOk l v x ≡ true
 unfolding fitFault
-fit-passed v x h = cond-pass (fitOk v x) 5 0 h .0
+fit-passed l v x h = cond-pass (fitOk l v x) 5 0 h .0
 
-fit-refused : (v : ℕ) (x : Sections) → fitOk v x ≡ false → fitFault v x ≡ 6
+fit-refused : (l : Layout) (v : ℕ) (x : Sections) → fitOk l v x ≡ false → fitFault l v x ≡ 6
 unfolding fitFault
-fit-refused v x h = ap (λ (t : Bool). cond t 0 6) h
+fit-refused l v x h = ap (λ (t : Bool). cond t 0 6) h
 
 -- the sections of a body pass
-pub well-fit : (v : ℕ) (x : Sections) → WellSections v x → fitFault v x ≡ 0
-well-fit v x w =
-    fit-pass v x
-    (⊎-elim (λ e. plain-pass v x (λ f. omega (arith, e .0, f)) (e .1))
-    (λ e. sizes-pass v x (e .0) (omega (arith, e .1 .further-fits)) (omega (arith, e .1 .metadata-fits))) w)
+pub well-fit : (l : Layout) (v : ℕ) (x : Sections) → WellSections l v (indexIn (x .metadata)) x → fitFault l v x ≡ 0
+well-fit l v x w =
+    fit-pass l v x
+    (⊎-elim (λ e. plain-pass l v x (λ f. omega (arith, e .0, f)) (e .1))
+    (λ e.
+    sizes-pass l v x (e .0) (omega (arith, e .1 .further-fits)) (fits-well l (indexIn (x .metadata)) (length (x .metadata)) (e .1 .metadata-fits)))
+    w)
 
-pub well-version : (v : ℕ) (x : Sections) → WellSections v x → IsVersion v
-well-version v x w = ⊎-elim (λ e. inl (e .0)) (λ e. inr (e .0)) w
+pub well-version : (l : Layout) (v k : ℕ) (x : Sections) → WellSections l v k x → IsVersion v
+well-version l v k x w = ⊎-elim (λ e. inl (e .0)) (λ e. inr (e .0)) w
 
 -- ---- checks 4 to 11 in turn, as the code makes them: n is the number of a check that is not passed
 
-module _ (v : ℕ) (t : List ℕ) (x : Sections) where
-  pub sections-version : (n : ℕ) → n ≡ versionFault v → (n ≡ 0 → ⊥) → n ≡ sectionsChecks v t x
+module _ (l : Layout) (v : ℕ) (t : List ℕ) (x : Sections) where
+  pub sections-version : (n : ℕ) → n ≡ versionFault v → (n ≡ 0 → ⊥) → n ≡ sectionsChecks l v t x
   unfolding sectionsChecks
   sections-version n e h = e ∙ sym (else-first (versionFault v) _ (λ z. h (e ∙ z)))
 
-  pub sections-unfit : versionFault v ≡ 0 → fitOk v x ≡ false → 6 ≡ sectionsChecks v t x
+  pub sections-unfit : versionFault v ≡ 0 → fitOk l v x ≡ false → 6 ≡ sectionsChecks l v t x
   unfolding sectionsChecks
   sections-unfit e h =
-      let k : fitFault v x ≡ 6 = fit-refused v x h in
-      sym (else-second (versionFault v) _ e ∙ else-fault (fitFault v x) _ 5 k)
+      let k : fitFault l v x ≡ 6 = fit-refused l v x h in
+      sym (else-second (versionFault v) _ e ∙ else-fault (fitFault l v x) _ 5 k)
 
-  pub sections-rest : versionFault v ≡ 0 → fitOk v x ≡ true → sectionsFault t x ≡ sectionsChecks v t x
+  pub sections-rest : versionFault v ≡ 0 → fitOk l v x ≡ true → sectionsFault t x ≡ sectionsChecks l v t x
   unfolding sectionsChecks
-  sections-rest e h = sym (else-second (versionFault v) _ e ∙ else-second (fitFault v x) _ (fit-pass v x h))
+  sections-rest e h = sym (else-second (versionFault v) _ e ∙ else-second (fitFault l v x) _ (fit-pass l v x h))
 
 -- ---- all checks but that of the room
 
@@ -168,96 +178,123 @@ module _ (v : ℕ) (t : List ℕ) (x : Sections) where
 abbrev pub longOf : Parts → ℕ
 longOf p = bodyLength (p .version) (length (p .sections .further)) (length (p .sections .content)) (length (p .sections .metadata))
 
-module _ (p : Parts) where
-  pub write-names : (n : ℕ) → n ≡ namesFault (p .typeText) (p .deviceName) → (n ≡ 0 → ⊥) → n ≡ writeChecks p
+pub length-given : (l : Layout) (p : Parts) → length (bodyGiven l p) ≡ longOf p
+length-given l p = length-body l (p .version) (indexOf p) (p .sections)
+
+module _ (l : Layout) (p : Parts) where
+  pub write-names : (n : ℕ) → n ≡ namesFault (p .typeText) (p .deviceName) → (n ≡ 0 → ⊥) → n ≡ writeChecks l p
   unfolding writeChecks
   write-names n e h = e ∙ sym (else-first (namesFault (p .typeText) (p .deviceName)) _ (λ z. h (e ∙ z)))
 
   -- what is left where the texts are right
   pub write-texts : namesFault (p .typeText) (p .deviceName) ≡ 0
-      → writeChecks p ≡ orElse (limitFault (length (bodyOf p))) (sectionsChecks (p .version) (p .typeText) (p .sections))
+      → writeChecks l p ≡ orElse (limitFault (length (bodyGiven l p))) (sectionsChecks l (p .version) (p .typeText) (p .sections))
   unfolding writeChecks
   write-texts e = else-second (namesFault (p .typeText) (p .deviceName)) _ e
 
-  pub write-limit : namesFault (p .typeText) (p .deviceName) ≡ 0 → limit < length (bodyOf p) → 3 ≡ writeChecks p
+  pub write-limit : namesFault (p .typeText) (p .deviceName) ≡ 0 → limit < length (bodyGiven l p) → 3 ≡ writeChecks l p
   write-limit e h =
-      let k : limitFault (length (bodyOf p)) ≡ 3 = limit-refused (length (bodyOf p)) h in
-      sym (write-texts e ∙ else-fault (limitFault (length (bodyOf p))) _ 2 k)
+      let k : limitFault (length (bodyGiven l p)) ≡ 3 = limit-refused (length (bodyGiven l p)) h in
+      sym (write-texts e ∙ else-fault (limitFault (length (bodyGiven l p))) _ 2 k)
 
-  pub write-rest : namesFault (p .typeText) (p .deviceName) ≡ 0 → length (bodyOf p) ≤ limit
-      → sectionsChecks (p .version) (p .typeText) (p .sections) ≡ writeChecks p
-  write-rest e h = sym (write-texts e ∙ else-second (limitFault (length (bodyOf p))) _ (limit-pass (length (bodyOf p)) h))
+  pub write-rest : namesFault (p .typeText) (p .deviceName) ≡ 0 → length (bodyGiven l p) ≤ limit
+      → sectionsChecks l (p .version) (p .typeText) (p .sections) ≡ writeChecks l p
+  write-rest e h = sym (write-texts e ∙ else-second (limitFault (length (bodyGiven l p))) _ (limit-pass (length (bodyGiven l p)) h))
 
   -- the limit as the code tests it
-  pub long-body : leb (longOf p) limit ≡ false → limit < length (bodyOf p)
-  long-body h = omega (arith, length-body (p .version) (p .sections), leb-false (longOf p) limit h)
+  pub long-body : leb (longOf p) limit ≡ false → limit < length (bodyGiven l p)
+  long-body h = omega (arith, length-given l p, leb-false (longOf p) limit h)
 
-  pub short-body : leb (longOf p) limit ≡ true → length (bodyOf p) ≤ limit
-  short-body h = omega (arith, length-body (p .version) (p .sections), leb-true (longOf p) limit h)
+  pub short-body : leb (longOf p) limit ≡ true → length (bodyGiven l p) ≤ limit
+  short-body h = omega (arith, length-given l p, leb-true (longOf p) limit h)
 
 -- what passes them
-pub record Writable (p : Parts) : Type 0 where
+pub record Writable (l : Layout) (p : Parts) : Type 0 where
   pub names : namesFault (p .typeText) (p .deviceName) ≡ 0
-  pub short : length (bodyOf p) ≤ limit
+  pub short : length (bodyGiven l p) ≤ limit
   pub version : IsVersion (p .version)
-  pub fit : fitOk (p .version) (p .sections) ≡ true
+  pub fit : fitOk l (p .version) (p .sections) ≡ true
+  pub metadata : metadataFault (p .sections .metadata) ≡ 0
 
-pub writable : (p : Parts) → writeChecks p ≡ 0 → Writable p
-unfolding writeChecks sectionsChecks
-writable p h =
+pub writable : (l : Layout) (p : Parts) → writeChecks l p ≡ 0 → Writable l p
+unfolding writeChecks sectionsChecks sectionsFault
+writable l p h =
     let a = zero-else (namesFault (p .typeText) (p .deviceName)) _ h in
-    let b = zero-else (limitFault (length (bodyOf p))) _ (a .1) in
+    let b = zero-else (limitFault (length (bodyGiven l p))) _ (a .1) in
     let c = zero-else (versionFault (p .version)) _ (b .1) in
-    let d = zero-else (fitFault (p .version) (p .sections)) _ (c .1) in
+    let d = zero-else (fitFault l (p .version) (p .sections)) _ (c .1) in
     record {
       names = a .0;
-      short = limit-passed (length (bodyOf p)) (b .0);
+      short = limit-passed (length (bodyGiven l p)) (b .0);
       version = version-passed (p .version) (c .0);
-      fit = fit-passed (p .version) (p .sections) (d .0);
+      fit = fit-passed l (p .version) (p .sections) (d .0);
+      metadata = zero-else (metadataFault (p .sections .metadata)) _ (d .1) .0;
     }
 
--- ---- the bytes of a message
+-- its metadata has its index
+pub written-index : (l : Layout) (p : Parts) → Writable l p → HasIndex l (p .version) (p .sections .metadata)
+written-index l p w = has-index l (p .version) (p .sections .metadata) (metadatas .index-within (p .sections .metadata) (w .metadata))
 
-pub length-parts : (p : Parts) → length (encodeParts p) ≡ 58 + length (bodyOf p)
-unfolding encodeParts
-length-parts p = length-append (encodeHeader (headerFor p)) (bodyOf p) ∙ ap (λ (n : ℕ). n + length (bodyOf p)) (length-header (headerFor p))
+-- and the sizes fit their fields, where they are stored
+pub written-sizes : (l : Layout) (p : Parts) → Writable l p → p .version ≡ 2
+    → (12 + length (p .sections .further) ≤ 65535) × MetadataFits l (indexOf p) (length (p .sections .metadata))
+written-sizes l p w e =
+    let x : Sections = p .sections in
+    let q = sizes-passed l (p .version) x e (w .fit) in
+    let n : length (x .metadata) ≤ limit = omega (arith, length-2 l (p .version) (indexOf p) x e, w .short) in
+    (q .0, fit-metadata l (p .version) (x .metadata) e (q .1) (written-index l p w) n)
 
-pub parts-front : (p : Parts) (rest : List ℕ) → encodeParts p ++ rest ≡ encodeHeader (headerFor p) ++ (bodyOf p ++ rest)
-unfolding encodeParts
-parts-front p rest = append-assoc (encodeHeader (headerFor p)) (bodyOf p) rest
+-- ---- the bytes of a message, k being the size of the metadata's index
 
--- the reader's number for them: that of the limit, then those of the body
-pub parts-number : (p : Parts) (rest : List ℕ) → HeaderFits (headerFor p)
-    → numberOf (encodeParts p ++ rest) ≡ orElse (limitFault (length (bodyOf p))) (bodyChecks (p .version) (crcOf (bodyOf p)) (p .typeText) (bodyOf p))
-parts-number p rest f = ap numberOf (parts-front p rest) ∙ whole-number (headerFor p) (bodyOf p) rest f refl
+module _ (l : Layout) (k : ℕ) (p : Parts) where
+  abbrev body : List ℕ
+  body = bodyOf l k p
 
--- what stands in them: the message itself
-pub parts-read : (p : Parts) (rest : List ℕ) → HeaderFits (headerFor p) → WellSections (p .version) (p .sections) → partsAt (encodeParts p ++ rest) ≡ p
-parts-read p rest f w =
-    let s : List ℕ = encodeParts p ++ rest in
-    let h : headerOf s ≡ headerFor p = ap headerOf (parts-front p rest) ∙ whole-header (headerFor p) (bodyOf p) rest f refl in
-    let k : bodyAt s ≡ bodyOf p = ap bodyAt (parts-front p rest) ∙ whole-body (headerFor p) (bodyOf p) rest f refl in
-    let x : sectionsOf (headerOf s .version) (bodyAt s) ≡ p .sections =
-    ap₂ sectionsOf (ap (λ (g : Header). g .version) h) k ∙ body-read (p .version) (p .sections) w in
-    λ i.
-    record {
-      version = h i .version;
-      typeText = h i .typeText;
-      deviceName = h i .deviceName;
-      timeStamp = h i .timeStamp;
-      sections = x i;
-    }
+  pub length-parts : length (encodeWith l k p) ≡ 58 + length body
+  unfolding encodeWith
+  length-parts = length-append (encodeHeader (headerFor l k p)) body ∙ ap (λ (n : ℕ). n + length body) (length-header (headerFor l k p))
 
--- where the sections can be written, those are the metadata's and the content's
-pub checks-sections : (p : Parts) → WellSections (p .version) (p .sections) → bodyChecks (p .version) (crcOf (bodyOf p)) (p .typeText) (bodyOf p) ≡ sectionsFault (p .typeText) (p .sections)
-checks-sections p w =
-    sym (checks-rest (p .version) (crcOf (bodyOf p)) (p .typeText) (bodyOf p) (version-pass (p .version) (well-version (p .version) (p .sections) w)) refl (body-well (p .version) (p .sections) w))
-    ∙ ap (sectionsFault (p .typeText)) (body-read (p .version) (p .sections) w)
+  pub parts-front : (rest : List ℕ) → encodeWith l k p ++ rest ≡ encodeHeader (headerFor l k p) ++ (body ++ rest)
+  unfolding encodeWith
+  parts-front rest = append-assoc (encodeHeader (headerFor l k p)) body rest
+
+  -- the reader's number for them: that of the limit, then those of the body
+  pub parts-number : (rest : List ℕ) → HeaderFits (headerFor l k p)
+      → numberOf l (encodeWith l k p ++ rest) ≡ orElse (limitFault (length body)) (bodyChecks l (p .version) (crcOf body) (p .typeText) body)
+  parts-number rest f = ap (numberOf l) (parts-front rest) ∙ whole-number (headerFor l k p) body rest f refl l
+
+  -- what stands in them: the message itself
+  pub parts-read : (rest : List ℕ) → HeaderFits (headerFor l k p) → WellSections l (p .version) k (p .sections) → partsAt l (encodeWith l k p ++ rest) ≡ p
+  parts-read rest f w =
+      let s : List ℕ = encodeWith l k p ++ rest in
+      let h : headerOf s ≡ headerFor l k p = ap headerOf (parts-front rest) ∙ whole-header (headerFor l k p) body rest f refl in
+      let b : bodyAt s ≡ body = ap bodyAt (parts-front rest) ∙ whole-body (headerFor l k p) body rest f refl in
+      let x : sectionsOf l (headerOf s .version) (bodyAt s) ≡ p .sections =
+      ap₂ (sectionsOf l) (ap (λ (g : Header). g .version) h) b ∙ body-read l (p .version) k (p .sections) w in
+      λ i.
+      record {
+        version = h i .version;
+        typeText = h i .typeText;
+        deviceName = h i .deviceName;
+        timeStamp = h i .timeStamp;
+        sections = x i;
+      }
+
+  -- where the sections can be written and k is the metadata's, those are the metadata's and the content's
+  pub checks-sections : WellSections l (p .version) k (p .sections) → k ≡ indexOf p
+      → bodyChecks l (p .version) (crcOf body) (p .typeText) body ≡ sectionsFault (p .typeText) (p .sections)
+  unfolding foundFault
+  checks-sections w e =
+      let v : ℕ = p .version in
+      let x : Sections = p .sections in
+      sym (checks-rest l v (crcOf body) (p .typeText) body (version-pass v (well-version l v k x w)) refl (body-well l v k x w))
+      ∙ ap (foundFault l v (p .typeText) body) (body-read l v k x w)
+      ∙ else-second (sizesFault l v body (x .metadata)) _ (body-agreed l v k x w (x .metadata) (agrees-same l v k (x .metadata) e))
 
 -- the header's writer passes it too
-header-writes : (p : Parts) → Writable p → (room : ℕ) → 58 ≤ room → header.writeFault (headerFor p) room ≡ 0
-header-writes p w room h =
-    write-room (headerFor p) room (w .names) (limit-pass (length (bodyOf p)) (w .short)) ∙ room-enough 58 room h
+header-writes : (l : Layout) (p : Parts) → Writable l p → (room : ℕ) → 58 ≤ room → header.writeFault (headerFor l (indexOf p) p) room ≡ 0
+header-writes l p w room h =
+    write-room (headerFor l (indexOf p) p) room (w .names) (limit-pass (length (bodyGiven l p)) (w .short)) ∙ room-enough 58 room h
 
 -- ---- the buffer, once the body is stored from 58 on and then the header
 
@@ -275,19 +312,19 @@ rest-filled out b at n h =
     drop-at (take at out) (b ++ drop n (drop at out)) at (length-take-le at out h) ∙ ap (λ (r : List ℕ). b ++ r) (drop-drop n at out)
 
 -- k is the length of the part that was lent, y what came back in it, and crc what was computed of that
-module _ (p : Parts) (out : List ℕ) (n k crc : ℕ) (y : List ℕ) (w : Writable p) (e : n ≡ length (bodyOf p)) (fits : 58 + n ≤ length out) (same : k ≡ n)
-    (stored : y ≡ sets (part k 58 out) 0 (bodyOf p)) (checked : crc ≡ crcOf (part k 58 (putMid 58 k out y))) where
+module _ (l : Layout) (p : Parts) (out : List ℕ) (n k crc : ℕ) (y : List ℕ) (w : Writable l p) (e : n ≡ length (bodyGiven l p)) (fits : 58 + n ≤ length out) (same : k ≡ n)
+    (stored : y ≡ sets (part k 58 out) 0 (bodyGiven l p)) (checked : crc ≡ crcOf (part k 58 (putMid 58 k out y))) where
   abbrev after : List ℕ
   after = putMid 58 k out y
 
-  body-stored : y ≡ bodyOf p
-  body-stored = stored ∙ ap (λ (j : ℕ). sets (part j 58 out) 0 (bodyOf p)) same ∙ filled out (bodyOf p) 58 n (sym e) fits
+  body-stored : y ≡ bodyGiven l p
+  body-stored = stored ∙ ap (λ (j : ℕ). sets (part j 58 out) 0 (bodyGiven l p)) same ∙ filled out (bodyGiven l p) 58 n (sym e) fits
 
-  after-rest : drop 58 after ≡ bodyOf p ++ drop (58 + n) out
+  after-rest : drop 58 after ≡ bodyGiven l p ++ drop (58 + n) out
   after-rest = rest-filled out y 58 k (omega arith) ∙ ap₂ (λ (b : List ℕ) (j : ℕ). b ++ drop (58 + j) out) body-stored same
 
-  crc-stored : crc ≡ crcOf (bodyOf p)
-  crc-stored = checked ∙ ap crcOf (ap (take k) after-rest ∙ take-at (bodyOf p) (drop (58 + n) out) k (sym e ∙ sym same))
+  crc-stored : crc ≡ crcOf (bodyGiven l p)
+  crc-stored = checked ∙ ap crcOf (ap (take k) after-rest ∙ take-at (bodyGiven l p) (drop (58 + n) out) k (sym e ∙ sym same))
 
   after-length : 58 ≤ length after
   after-length = omega (arith, length-append (take 58 out) (y ++ drop k (drop 58 out)), length-take-le 58 out (omega arith))
@@ -295,45 +332,45 @@ module _ (p : Parts) (out : List ℕ) (n k crc : ℕ) (y : List ℕ) (w : Writab
   pub message-stored : headerOut
       (record { version = p .version; typeText = p .typeText; deviceName = p .deviceName; timeStamp = p .timeStamp; bodySize = n; crc = crc })
       after
-      ≡ encodeParts p ++ drop (58 + n) out
-  unfolding encodeParts
+      ≡ encodeParts l p ++ drop (58 + n) out
+  unfolding encodeWith
   message-stored =
       ap (λ (h : Header). headerOut h after)
       (λ i. record { version = p .version; typeText = p .typeText; deviceName = p .deviceName; timeStamp = p .timeStamp; bodySize = e i; crc = crc-stored i })
-      ∙ out-header (headerFor p) after (header-writes p w (length after) after-length)
-      ∙ ap (λ (r : List ℕ). encodeHeader (headerFor p) ++ r) after-rest
-      ∙ sym (append-assoc (encodeHeader (headerFor p)) (bodyOf p) (drop (58 + n) out))
+      ∙ out-header (headerFor l (indexOf p) p) after (header-writes l p w (length after) after-length)
+      ∙ ap (λ (r : List ℕ). encodeHeader (headerFor l (indexOf p) p) ++ r) after-rest
+      ∙ sym (append-assoc (encodeHeader (headerFor l (indexOf p) p)) (bodyGiven l p) (drop (58 + n) out))
 
 -- ---- the answer and the buffer
 
-module _ (p : Parts) (out : List ℕ) where
-  refuses : (n : ℕ) → n ≡ writeFault p (length out) → (n ≡ 0 → ⊥) → (Refused n ≡ messageWritten p (length out)) × (out ≡ messageOut p out)
+module _ (l : Layout) (p : Parts) (out : List ℕ) where
+  refuses : (n : ℕ) → n ≡ writeFault l p (length out) → (n ≡ 0 → ⊥) → (Refused n ≡ messageWritten l p (length out)) × (out ≡ messageOut l p out)
   unfolding messageWritten messageOut
   refuses n e h =
-      let k : writeFault p (length out) ≡ 0 → ⊥ = λ z. h (e ∙ z) in
-      (ap Refused e ∙ sym (written-refused (writeFault p (length out)) _ k), sym (out-refused (writeFault p (length out)) _ out k))
+      let k : writeFault l p (length out) ≡ 0 → ⊥ = λ z. h (e ∙ z) in
+      (ap Refused e ∙ sym (written-refused (writeFault l p (length out)) _ k), sym (out-refused (writeFault l p (length out)) _ out k))
 
-  pub answers-checks : (n : ℕ) → n ≡ writeChecks p → (n ≡ 0 → ⊥) → (Refused n ≡ messageWritten p (length out)) × (out ≡ messageOut p out)
+  pub answers-checks : (n : ℕ) → n ≡ writeChecks l p → (n ≡ 0 → ⊥) → (Refused n ≡ messageWritten l p (length out)) × (out ≡ messageOut l p out)
   unfolding writeFault
-  answers-checks n e h = refuses n (e ∙ sym (else-first (writeChecks p) _ (λ z. h (e ∙ z)))) h
+  answers-checks n e h = refuses n (e ∙ sym (else-first (writeChecks l p) _ (λ z. h (e ∙ z)))) h
 
-  module _ (n : ℕ) (e : n ≡ length (bodyOf p)) (z : writeChecks p ≡ 0) where
-    whole-length : 58 + n ≡ length (encodeParts p)
-    whole-length = ap (λ (k : ℕ). 58 + k) e ∙ sym (length-parts p)
+  module _ (n : ℕ) (e : n ≡ length (bodyGiven l p)) (z : writeChecks l p ≡ 0) where
+    whole-length : 58 + n ≡ length (encodeParts l p)
+    whole-length = ap (λ (k : ℕ). 58 + k) e ∙ sym (length-parts l (indexOf p) p)
 
-    pub answers-room : length out < 58 + n → (Refused 20 ≡ messageWritten p (length out)) × (out ≡ messageOut p out)
+    pub answers-room : length out < 58 + n → (Refused 20 ≡ messageWritten l p (length out)) × (out ≡ messageOut l p out)
     unfolding writeFault
     answers-room h =
         refuses 20
-        (sym (else-second (writeChecks p) _ z ∙ room-short (length (encodeParts p)) (length out) (omega (arith, whole-length))))
+        (sym (else-second (writeChecks l p) _ z ∙ room-short (length (encodeParts l p)) (length out) (omega (arith, whole-length))))
         (λ k. omega (arith, k))
 
-    pub answers-written : 58 + n ≤ length out → (left : List ℕ) → left ≡ encodeParts p ++ drop (58 + n) out
-        → (Wrote (58 + n) ≡ messageWritten p (length out)) × (left ≡ messageOut p out)
+    pub answers-written : 58 + n ≤ length out → (left : List ℕ) → left ≡ encodeParts l p ++ drop (58 + n) out
+        → (Wrote (58 + n) ≡ messageWritten l p (length out)) × (left ≡ messageOut l p out)
     unfolding messageWritten messageOut writeFault
     answers-written h left k =
-        let f : writeFault p (length out) ≡ 0 =
-        else-zero (writeChecks p) _ z (room-enough (length (encodeParts p)) (length out) (omega (arith, whole-length))) in (
-          ap Wrote whole-length ∙ sym (written-wrote (writeFault p (length out)) (length (encodeParts p)) f),
-          k ∙ ap (λ (j : ℕ). encodeParts p ++ drop j out) whole-length ∙ sym (out-wrote (writeFault p (length out)) (encodeParts p) out f),
+        let f : writeFault l p (length out) ≡ 0 =
+        else-zero (writeChecks l p) _ z (room-enough (length (encodeParts l p)) (length out) (omega (arith, whole-length))) in (
+          ap Wrote whole-length ∙ sym (written-wrote (writeFault l p (length out)) (length (encodeParts l p)) f),
+          k ∙ ap (λ (j : ℕ). encodeParts l p ++ drop j out) whole-length ∙ sym (out-wrote (writeFault l p (length out)) (encodeParts l p) out f),
         )

@@ -1,7 +1,7 @@
 -- The panel and a room hold the same, place by place.
 use Prim.Native.Nat.{ℕ, zero, suc, _≤_}
 use mathlib.Core.Path.{_≡_, refl, ap, ap₂, sym, subst, _∙_}
-use mathlib.Core.Bool.{Bool, true, false, _&&_}
+use mathlib.Core.Bool.{Bool, true, false, cond, _&&_}
 use mathlib.Core.List.{List, map}
 use mathlib.Core.Option.{Option, none, some, Option·map}
 use lib.ListN.{length, getD, replicate, List·getD-map}
@@ -68,9 +68,9 @@ place-is x (some y) t n w a =
 
 -- ---- the table
 
--- the link as a room has it
+-- the link as a room has it: a layout where it is up
 abbrev pub roomLink : Link → history.Link
-roomLink k = record { up = k .up; clock = k .clock }
+roomLink k = record { up = cond (k .up) (some (k .layout)) none; clock = k .clock }
 
 abbrev pub TilesAgree : List Tile → List (Option RoomTile) → Type 0
 TilesAgree xs ps = (i : ℕ) → TileAgrees (getD xs i noTile) (placeAt ps i)

@@ -17,6 +17,7 @@ use Rattle.fields.proofs.Laws.Checks.{zero-else, cond-fault, cond-pass, and-spl
 use Rattle.fields.proofs.Laws.Tests.{by-test, by-zero, true-false, cond-cases}
 use Rattle.content.specs.Check.{deepest}
 use Rattle.content.specs.Tree.{typeText}
+use Rattle.message.specs.declared.Layout.{Layout}
 use Rattle.message.specs.Message.{Message, WellFormed, encode}
 use Rattle.message.specs.Check.{readOf}
 use Rattle.message.specs.Demand2.{Begins}
@@ -26,7 +27,7 @@ use Rattle.history.specs.Calls as history
 use Rattle.history.specs.Places.{passes, isThere, firstFree}
 use Rattle.history.specs.Reading.{Reading, Reads, oneMessage, Reader}
 use Rattle.history.specs.Reading as reading
-use Rattle.history.specs.Summary.{tileAt, isOf, carries, isAllowed, allowedFault, clockFault, tileFault, readingNumber, numberOn}
+use Rattle.history.specs.Summary.{tileAt, isOf, carries, isAllowed, allowedFault, clockFault, tileFault, readingNumber, readOn, numberOn}
 use Rattle.history.proofs.Laws.Places.{filled-at, changed-at}
 use Rattle.history.proofs.Laws.Readings.{begins-one, none-number}
 use Rattle.room.proofs.Laws.Room.{Received, RoomTile, Room, roomAt, entryOf, bookOf, countedBy, shownBy, changed, answered, roomNext, roomAnswer}
@@ -38,6 +39,7 @@ use Rattle.panel.specs.declared.Tile.{Tile}
 use Rattle.panel.specs.declared.Panel.{Panel}
 use Rattle.panel.specs.declared.LookAnswer.the-variants.{Empty, Green, Grey}
 use Rattle.panel.specs.Tiles.{noValue, labelOf, noTile, newTile, isTile, relinked, countedTile, countedFor, colourOf, freeIn}
+use Rattle.panel.specs.Calls as panel
 use Rattle.panel.specs.Calls.{labelIn, valueIn, entered, linked, received, lookedAt}
 use Rattle.panel.specs.Answers.{lookAnswer}
 use Rattle.panel.specs.Demand3.{answerTo, panelNext}
@@ -61,24 +63,24 @@ carried-pose n e a f =
     let y : e .typeText ≡ typeText (n .content) = same-eq _ _ (and-split (same (e .typeText) (typeText (n .content))) _ f .0) in
     ⊎-elim (λ v. inl (sym y ∙ v)) (λ v. inr (sym y ∙ v)) (allowed (e .typeText) (e .name) (e .holdTime) a .pose)
 
-module _ (t : ℕ) (s : List ℕ) (n : Message) (w : WellFormed n) (whole : encode n ≡ s) where
-  begins : Begins s n
-  begins = begins-one s n w whole
+module _ (l : Layout) (t : ℕ) (s : List ℕ) (n : Message) (w : WellFormed l n) (whole : encode l n ≡ s) where
+  begins : Begins l s n
+  begins = begins-one l s n w whole
 
-  abbrev l : Label
-  l = labelIn s (readOf s)
+  abbrev k : Label
+  k = labelIn s (readOf l s)
 
   abbrev v : Value
-  v = valueIn s (readOf s)
+  v = valueIn s (readOf l s)
 
-  count-agrees : (x : Tile) (o : Option RoomTile) → TileAgrees x o → TileAgrees (countedFor l t v x) (Option·map (countedBy t (oneMessage n)) o)
+  count-agrees : (x : Tile) (o : Option RoomTile) → TileAgrees x o → TileAgrees (countedFor k t v x) (Option·map (countedBy t (oneMessage n)) o)
   count-agrees x none a =
-      cond-cases (λ (y : Tile). TileAgrees y none) (isTile l x) (countedTile x t v) x
+      cond-cases (λ (y : Tile). TileAgrees y none) (isTile k x) (countedTile x t v) x
       (λ q. true-false (x .used) (and-split (x .used) _ q .0) (a .used))
       (λ q. a)
   count-agrees x (some y) a =
-      let e : isTile l x ≡ carries n (y .entry) =
-      ap (λ (k : Label). isTile k x) (begun-label s n begins) ∙ place-is x (some y) (typeText (n .content)) (n .deviceName) (w .texts) a in
+      let e : isTile k x ≡ carries n (y .entry) =
+      ap (λ (y : Label). isTile y x) (begun-label l s n begins) ∙ place-is x (some y) (typeText (n .content)) (n .deviceName) (w .texts) a in
       subst (λ (q : Bool). TileAgrees (cond q (countedTile x t v) x) (some (countedBy t (oneMessage n) y))) (sym e)
       (chosen (carries n (y .entry)) refl)
     where
@@ -90,7 +92,7 @@ module _ (t : ℕ) (s : List ℕ) (n : Message) (w : WellFormed n) (whole : enco
                 record {
                   counted = refl;
                   clock = refl;
-                  value = begun-value s n (y .entry) begins;
+                  value = begun-value l s n (y .entry) begins;
                   short = pose-short (n .content) deepest (w .content) (carried-pose n (y .entry) (a .entry .allowed) q);
                 };
             since = refl;
@@ -183,8 +185,9 @@ module _ (R : Reader) (p : Panel) (m : Room) (T : Agrees p m) where
             let w = zero-else (cond (any (passes (isOf t n)) (bookOf m .tiles)) 17 0) _ (y .1) in
             leb-false 16 place (full-same p m T ∙ cond-fault _ 17 0 (w .1) .0)
 
-  link-agrees : (up : Bool) (t : ℕ) → Agrees (linked p up t) (changed R m (history.linking (record { up = up; clock = t })))
-  link-agrees up t =
+  link-agrees : (up : Bool) (l : Layout) (t : ℕ)
+      → Agrees (linked p up l t) (changed R m (history.linking (record { up = cond up (some l) none; clock = t })))
+  link-agrees up l t =
       record {
         link = refl;
         size = length-map (p .tiles) relinked ∙ T .size;
@@ -192,27 +195,35 @@ module _ (R : Reader) (p : Panel) (m : Room) (T : Agrees p m) where
       }
 
   -- what counts is one message
-  one-of : (s : List ℕ) (ts : List (Option Entry)) (r : Reading) → Bytes s → Reads s r → readingNumber ts r ≡ 0
-      → (n : Message) × WellFormed n × (encode n ≡ s) × (r ≡ oneMessage n)
-  one-of s ts r bs (reading.none n) z = absurd (none-number s bs n (read-number s ∙ z))
-  one-of s ts r bs (reading.more n g l) z = absurd (let y : _≡_ {A = ℕ} 12 0 = z in omega arith)
-  one-of s ts r bs (reading.one n w e) z = (n, w, e, refl)
+  one-of : (l : Layout) (s : List ℕ) (ts : List (Option Entry)) (r : Reading) → Bytes s → Reads l s r → readingNumber ts r ≡ 0
+      → (n : Message) × WellFormed l n × (encode l n ≡ s) × (r ≡ oneMessage n)
+  one-of l s ts r bs (reading.none n) z = absurd (none-number l s bs n (read-number l s ∙ z))
+  one-of l s ts r bs (reading.more n g h) z = absurd (let y : _≡_ {A = ℕ} 12 0 = z in omega arith)
+  one-of l s ts r bs (reading.one n w e) z = (n, w, e, refl)
+
+  -- on the panel's link
+  one-on : (s : List ℕ) → Bytes s → (up : Bool) → readingNumber (bookOf m .tiles) (readOn R (cond up (some (p .link .layout)) none) s) ≡ 0
+      → (n : Message) × WellFormed (p .link .layout) n × (encode (p .link .layout) n ≡ s)
+      × (readOn R (cond up (some (p .link .layout)) none) s ≡ oneMessage n)
+  one-on s bs true z = one-of (p .link .layout) s (bookOf m .tiles) (R .read (p .link .layout) s) bs (R .reads (p .link .layout) s bs) z
+  one-on s bs false z = absurd (let y : _≡_ {A = ℕ} 14 0 = z in omega arith)
 
   message-agrees : (t : ℕ) (s : List ℕ) → Bytes s → numberOn R (bookOf m) (message t s) ≡ 0
-      → Agrees (received p t s (readOf s)) (changed R m (history.receiving t s))
+      → Agrees (received p t s (panel.readOn (p .link) s)) (changed R m (history.receiving t s))
   message-agrees t s bs z =
+      let a = panel.readOn (p .link) s in
+      let e = ap (λ (k : history.Link). readOn R (k .up) s) (T .link) in
       let y = zero-else (clockFault (m .link .clock) t) _ z in
-      let u = zero-else (cond (m .link .up) 0 14) _ (y .1) in
-      let n = one-of s (bookOf m .tiles) (R .read s) bs (R .reads s bs) (u .1) in
+      let n = one-on s bs (p .link .up) (ap (readingNumber (bookOf m .tiles)) e ∙ y .1) in
       record {
         link = ap (history.atClock t) (T .link);
-        size = length-map (p .tiles) (countedFor (labelIn s (readOf s)) t (valueIn s (readOf s))) ∙ T .size;
+        size = length-map (p .tiles) (countedFor (labelIn s a) t (valueIn s a)) ∙ T .size;
         places =
-            changed-agree (countedFor (labelIn s (readOf s)) t (valueIn s (readOf s))) (countedBy t (R .read s)) refl
+            changed-agree (countedFor (labelIn s a) t (valueIn s a)) (countedBy t (readOn R (m .link .up) s)) refl
             (subst
             (λ (r : Reading). (x : Tile) (o : Option RoomTile) → TileAgrees x o
-            → TileAgrees (countedFor (labelIn s (readOf s)) t (valueIn s (readOf s)) x) (Option·map (countedBy t r) o))
-            (sym (n .3)) (count-agrees t s (n .0) (n .1) (n .2)))
+            → TileAgrees (countedFor (labelIn s a) t (valueIn s a) x) (Option·map (countedBy t r) o))
+            (sym (sym e ∙ n .3)) (count-agrees (p .link .layout) t s (n .0) (n .1) (n .2)))
             (p .tiles) (m .tiles) (T .places);
       }
 
@@ -225,8 +236,8 @@ module _ (R : Reader) (p : Panel) (m : Room) (T : Agrees p m) where
   call-agrees : (c : Call) → OfBytes c → CallAgrees c
   call-agrees (add t n h) o =
       record { fault = add-same p m T R t n h; panel = add-agrees t n h; answer = λ z. ap added (free-same p m T) }
-  call-agrees (linkUp t) o = record { fault = clock-same p m T t; panel = λ z. link-agrees true t; answer = λ z. refl }
-  call-agrees (linkDown t) o = record { fault = clock-same p m T t; panel = λ z. link-agrees false t; answer = λ z. refl }
+  call-agrees (linkUp l t) o = record { fault = clock-same p m T t; panel = λ z. link-agrees true l t; answer = λ z. refl }
+  call-agrees (linkDown t) o = record { fault = clock-same p m T t; panel = λ z. link-agrees false (p .link .layout) t; answer = λ z. refl }
   call-agrees (message t s) o = record { fault = message-same p m T R t s o; panel = message-agrees t s o; answer = λ z. refl }
   call-agrees (look i now) o = record { fault = look-same p m T R i now; panel = λ z. T; answer = look-answered i now }
 

@@ -1,16 +1,13 @@
--- `panel::unread` meets its contract: the reader's answer to no bytes.
+-- `panel::unread` meets its contract: the refusal that stands in.
 use borrow.Author.Needs.{needs}
 use Rattle.panel.proofs.unread.Statement.{statement}
 use Rattle.panel.proofs.unread.Tie as tie
 
-slice-aggregate-read : tie.Need-slice-aggregate-read
-slice-aggregate-read c = search needs
-
-read-requires : tie.Need-read-requires
-read-requires c κs = search needs
+refusal-requires : tie.Need-refusal-requires
+refusal-requires c κs = search needs
 
 returns : tie.Need-returns
-returns c = simp (c .read .ensures)
+returns c = simp (c .refusal .ensures)
 
 pub unread-spec : {M : Type 1} → statement M
-unread-spec = tie.close (tie.spec slice-aggregate-read read-requires returns)
+unread-spec = tie.close (tie.spec refusal-requires returns)

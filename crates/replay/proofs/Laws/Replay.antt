@@ -98,8 +98,8 @@ module _ (p : Panel) where
   performs : (c : Call) → Performs p (performed p c) (calledBy (resultOf p c))
   unfolding performed
   performs (add t n h) = add-performs (addOf p t n h)
-  performs (linkUp t) = call-performs (linkOf true p t)
-  performs (linkDown t) = call-performs (linkOf false p t)
+  performs (linkUp l t) = call-performs (linkOf true l p t)
+  performs (linkDown t) = call-performs (linkOf false (p .link .layout) p t)
   performs (message t s) = call-performs (messageOf p t s)
   performs (look i now) =
       record {

@@ -12,6 +12,9 @@ use Rattle.fields.specs.Layout.{total, join, cut, Widths}
 use Rattle.fields.proofs.Laws.Bytes.{bytes-nil, bytes-cons, bytes-tail, bytes-part}
 use Rattle.fields.proofs.Laws.Numbers.{length-beBytes, beVal-beBytes, beAt-lt}
 use Rattle.fields.proofs.Laws.Layout.{length-join, cut-join}
+use Rattle.message.specs.declared.Layout.{Layout}
+use Rattle.message.specs.declared.Layout.the-variants.{New, Old}
+use Rattle.message.specs.Layouts.{layoutOf, layoutNumber}
 use Rattle.history.specs.Calls.{Call, add, linkUp, linkDown, message, look}
 use Rattle.replay.specs.Script.{callByte, clockIn, numberIn, firstPart, secondPart, callLength, Fields, fieldsIn, callWith, callOf, callsIn}
 use Rattle.replay.specs.Scripts.{fieldsOf, written, callBytes, scriptOf, PartFits, FieldsFit, Fits, Scripts}
@@ -69,10 +72,19 @@ module _ (f : Fields) (rest : List ℕ) where
           → _≡_ {A = Fields} (record { which = k; clock = t; number = n; first = x; second = y }) f
       same-fields a b c d e = rw (a, b, c, d, e) refl
 
+number-fits : (l : Layout) → layoutNumber l < 256 ^ 8
+number-fits New = omega arith
+number-fits Old = omega arith
+
+number-back : (l : Layout) → layoutOf (layoutNumber l) ≡ l
+unfolding layoutOf
+number-back New = refl
+number-back Old = refl
+
 -- a call is the one with its fields
 call-with : (c : Call) → callWith (fieldsOf c) ≡ c
 call-with (add t n h) = refl
-call-with (linkUp t) = refl
+call-with (linkUp l t) = ap (λ (o : Layout). linkUp o t) (number-back l)
 call-with (linkDown t) = refl
 call-with (message t s) = refl
 call-with (look i t) = refl
@@ -136,7 +148,7 @@ call-fits s b =
     let y : PartFits (secondPart s) = part-fits s (beAt 4 21 s) (25 + beAt 4 17 s) b (beAt-lt 4 21 s b) in
     call-each Fits s
     (record { which = omega arith; clock = omega arith; number = n; first = x; second = y })
-    (record { which = omega arith; clock = t; number = omega arith; first = no-part; second = no-part })
+    (record { which = omega arith; clock = t; number = number-fits (layoutOf (numberIn s)); first = no-part; second = no-part })
     (record { which = omega arith; clock = t; number = omega arith; first = no-part; second = no-part })
     (record { which = omega arith; clock = t; number = omega arith; first = x; second = no-part })
     (record { which = omega arith; clock = t; number = n; first = no-part; second = no-part })

@@ -13,7 +13,7 @@ use Rattle.message.specs.Message.{Message}
 use Rattle.history.specs.Calls.{Call, Entry, atClock, Note, adding, linking, receiving, nothing, noteOf}
 use Rattle.history.specs.Places.{passes, firstFree}
 use Rattle.history.specs.Reading.{Reading, noMessage, leftOver, oneMessage, Reader}
-use Rattle.history.specs.Summary.{Summary, tileAt, carries, noted, numberOn, summaryOf}
+use Rattle.history.specs.Summary.{Summary, tileAt, carries, noted, numberOn, summaryOf, readOn}
 use Rattle.history.specs.History.{CountsFor, LinkCall, NoneCounted}
 use Rattle.history.proofs.Laws.Places.{changedEach, filled-at, free-at, changed-at, changed-filled}
 use Rattle.history.proofs.Laws.Longer.{by-calls, isReceiving, isLinking, longer, book-next, book-kept, SameCounted, same-counted}
@@ -65,11 +65,11 @@ module _ (R : Reader) where
   book-changed : (m : Room) (n : Note) → bookOf (changed R m n) ≡ noted (bookOf m) n
   book-changed m (adding e) =
       ap (λ (ts : List (Option Entry)). record { tiles = ts; link = m .link }) (changed-filled entryOf (newTile e) (m .tiles))
-  book-changed m (linking l) =
-      ap (λ (ts : List (Option Entry)). record { tiles = ts; link = l }) (same-entries relinked (λ x. refl) (m .tiles))
+  book-changed m (linking k) =
+      ap (λ (ts : List (Option Entry)). record { tiles = ts; link = k }) (same-entries relinked (λ x. refl) (m .tiles))
   book-changed m (receiving t s) =
       ap (λ (ts : List (Option Entry)). record { tiles = ts; link = atClock t (m .link) })
-      (same-entries (countedBy t (R .read s)) (kept-entry t (R .read s)) (m .tiles))
+      (same-entries (countedBy t (readOn R (m .link .up) s)) (kept-entry t (readOn R (m .link .up) s)) (m .tiles))
   book-changed m nothing = refl
 
   pub room-more : (cs : List Call) (c : Call) → roomAfter R (longer R cs c) ≡ roomNext R (roomAfter R cs) c
@@ -126,19 +126,19 @@ module _ (R : Reader) where
 
     -- a message that is none of the tile's
     module _ (t : ℕ) (s : List ℕ) (q : noteOf c ≡ receiving t s) where
-      passed-by : (r : Reading) → R .read s ≡ r → ((n : Message) → r ≡ oneMessage n → passes (carries n) (tileAt (summaryOf R cs) i) ≡ false)
+      passed-by : (r : Reading) → readOn R (summaryOf R cs .link .up) s ≡ r → ((n : Message) → r ≡ oneMessage n → passes (carries n) (tileAt (summaryOf R cs) i) ≡ false)
           → (o : Option RoomTile) → Now o → Then o
       passed-by r e f =
           other-at
           (λ u n d.
           true-false (passes (carries n) (tileAt (summaryOf R cs) i)) (d .carried)
-          (f n (sym e ∙ ap (R .read) (same-bytes u (d .bytes) (sym q ∙ d .is)) ∙ d .read)))
+          (f n (sym e ∙ ap (readOn R (summaryOf R cs .link .up)) (same-bytes u (d .bytes) (sym q ∙ d .is)) ∙ d .read)))
           (not-linked cs c (ap isLinking q))
         where
           same-bytes : (u : ℕ) (w : List ℕ) → receiving t s ≡ receiving u w → s ≡ w
           same-bytes u w y = cc
 
-      received-at : numberOn R (summaryOf R cs) c ≡ 0 → (r : Reading) → R .read s ≡ r → (o : Option RoomTile) → roomAt m i ≡ o → Now o
+      received-at : numberOn R (summaryOf R cs) c ≡ 0 → (r : Reading) → readOn R (summaryOf R cs .link .up) s ≡ r → (o : Option RoomTile) → roomAt m i ≡ o → Now o
           → Then (Option·map (countedBy t r) o)
       received-at z r e none g h = passed-by r e (λ n y. ap (passes (carries n)) (book-at cs i ∙ ap (Option·map entryOf) g)) none h
       received-at z (noMessage k) e (some x) g h = passed-by (noMessage k) e (λ n y. absurd (no-message n y)) (some x) h
@@ -169,11 +169,13 @@ module _ (R : Reader) where
         let f : tileAt (summaryOf R cs) i ≡ none = book-at cs i ∙ ap (Option·map entryOf) o in
         C .added cs c i e q (λ k t n d. none-counted R i cs f k t n (not-received cs c (ap isReceiving q) i .less k t n d)) (subst Now o h))
         (λ t. C .other cs c i (roomAt m i) (not-received cs c (ap isReceiving q) i) (not-linked cs c (ap isLinking q)) h))
-    holds-noted (linking l) q z h =
+    holds-noted (linking k) q z h =
         subst Then (sym (changed-at relinked (m .tiles) i))
-        (C .linked cs c i (roomAt m i) (not-received cs c (ap isReceiving q) i) (record { link = l; is = q; accepted = z }) h)
+        (C .linked cs c i (roomAt m i) (not-received cs c (ap isReceiving q) i) (record { link = k; is = q; accepted = z }) h)
     holds-noted (receiving t s) q z h =
-        subst Then (sym (changed-at (countedBy t (R .read s)) (m .tiles) i)) (received-at t s q z (R .read s) refl (roomAt m i) refl h)
+        let r = readOn R (m .link .up) s in
+        subst Then (sym (changed-at (countedBy t r) (m .tiles) i))
+        (received-at t s q z r (ap (λ (b : Summary). readOn R (b .link .up) s) (sym (books cs))) (roomAt m i) refl h)
     holds-noted nothing q z h =
         C .other cs c i (roomAt m i) (not-received cs c (ap isReceiving q) i) (not-linked cs c (ap isLinking q)) h
 

@@ -66,7 +66,7 @@ module _ (R : Reader) where
               ⊎-elim
               (λ y. (omega (arith, y .within), omega (arith, known R cs i j u n y, clock-received R (summaryOf R cs) c i t m d)))
               (λ w.
-              let y = same-received R t u (d .bytes) (w .1 .bytes) m n (sym (d .is) ∙ w .1 .is) (d .read) (w .1 .read) in
+              let y = same-received R (summaryOf R cs .link .up) (summaryOf R cs .link .up) t u (d .bytes) (w .1 .bytes) m n refl (sym (d .is) ∙ w .1 .is) (d .read) (w .1 .read) in
               (omega (arith, w .0), omega (arith, y .0)))
               (counted-cases R cs c i j u n q);
         }

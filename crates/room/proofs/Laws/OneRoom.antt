@@ -132,7 +132,7 @@ module _ (R : Reader) (cs : List Call) where
 
   accepted-answer : (c : Call) → numberOn R (summaryOf R cs) c ≡ 0 → Accepted R cs c (answered R m c)
   accepted-answer (add t n h) z = ap (λ (b : Summary). added (firstFree (b .tiles))) (books R cs)
-  accepted-answer (linkUp t) z = refl
+  accepted-answer (linkUp l t) z = refl
   accepted-answer (linkDown t) z = refl
   accepted-answer (message t s) z = refl
   accepted-answer (look i now) z =

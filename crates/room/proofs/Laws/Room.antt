@@ -8,7 +8,7 @@ use Rattle.message.specs.Message.{Message}
 use Rattle.history.specs.Calls.{Call, add, linkUp, linkDown, message, look, Entry, Link, atClock, Note, adding, linking, receiving, nothing, noteOf, green, grey, Answer, refused, accepted, added, empty, shown}
 use Rattle.history.specs.Places.{placeAt, firstFree, filled}
 use Rattle.history.specs.Reading.{Reading, noMessage, leftOver, oneMessage, Reader}
-use Rattle.history.specs.Summary.{Summary, carries, numberOn}
+use Rattle.history.specs.Summary.{Summary, carries, numberOn, readOn}
 use Rattle.history.specs.History.{valueFor}
 use Rattle.history.proofs.Laws.Places.{changedEach}
 
@@ -28,7 +28,7 @@ pub record Room : Type 0 where
   pub link : Link
 
 abbrev pub freshRoom : Room
-freshRoom = record { tiles = []; link = record { up = false; clock = 0 } }
+freshRoom = record { tiles = []; link = record { up = none; clock = 0 } }
 
 abbrev pub roomAt : Room → ℕ → Option RoomTile
 roomAt m i = placeAt (m .tiles) i
@@ -73,14 +73,14 @@ module _ (R : Reader) where
   -- the room after a call that is not refused, by what the book notes of it
   abbrev pub changed : Room → Note → Room
   changed m (adding e) = record { tiles = filled (newTile e) (m .tiles); link = m .link }
-  changed m (linking l) = record { tiles = changedEach relinked (m .tiles); link = l }
-  changed m (receiving t s) = record { tiles = changedEach (countedBy t (R .read s)) (m .tiles); link = atClock t (m .link) }
+  changed m (linking k) = record { tiles = changedEach relinked (m .tiles); link = k }
+  changed m (receiving t s) = record { tiles = changedEach (countedBy t (readOn R (m .link .up) s)) (m .tiles); link = atClock t (m .link) }
   changed m nothing = m
 
   -- what it answers
   abbrev pub answered : Room → Call → Answer
   answered m (add t n h) = added (firstFree (bookOf m .tiles))
-  answered m (linkUp t) = accepted
+  answered m (linkUp l t) = accepted
   answered m (linkDown t) = accepted
   answered m (message t s) = accepted
   answered m (look i now) = shownBy (roomAt m i) now

@@ -31,7 +31,7 @@ fn print_cost(message: &[u8], stream: &[u8], fragment: usize) {
     let lengths = lengths(message.len(), stream.len(), fragment);
     let mut buffer = [0; ROOM];
     assert_eq!(read_whole(stream), stream.len());
-    let (last, total) = linked::feed(&lengths, stream, &mut buffer);
+    let (last, total) = linked::feed(inputs::LAYOUT, &lengths, stream, &mut buffer);
     assert_eq!(
         (last.kind, total),
         (1, stream.len()),
@@ -39,12 +39,15 @@ fn print_cost(message: &[u8], stream: &[u8], fragment: usize) {
     );
     assert_eq!(
         last.numbers,
-        linked::read_fields(message),
+        linked::read_fields(inputs::LAYOUT, message),
         "fragments of {fragment}"
     );
     let [whole, pushed] = alternate([
         timer(|| read_whole(black_box(stream))),
-        timer(|| linked::feed(black_box(&lengths), black_box(stream), &mut buffer)),
+        timer(|| {
+            let (lengths, stream) = (black_box(&lengths), black_box(stream));
+            linked::feed(inputs::LAYOUT, lengths, stream, &mut buffer)
+        }),
     ]);
     println!(
         "in fragments of {fragment:>4} bytes {:>6.1} ms, in one piece {:>5.1} ms, ratio {:.2}, least {:.2}",
@@ -59,7 +62,7 @@ fn print_cost(message: &[u8], stream: &[u8], fragment: usize) {
 fn read_whole(stream: &[u8]) -> usize {
     let mut at = 0;
     while at < stream.len() {
-        let (number, step) = linked::read(&stream[at..]);
+        let (number, step) = linked::read(inputs::LAYOUT, &stream[at..]);
         assert_eq!(number, 0);
         at += step;
     }

@@ -4,7 +4,7 @@
 
 use reference::content::bind::{self, Part};
 use reference::content::image::Header;
-use reference::message::body::Body;
+use reference::message::body::{Body, Layout};
 use reference::message::metadata::{self, Entry};
 use reference::message::Message;
 use reference::panel::Call;
@@ -33,8 +33,11 @@ pub fn plain<'a>(type_text: &'a [u8], content: &'a [u8]) -> Message<'a> {
     }
 }
 
+/// The layout of all messages of V 2.
+pub const LAYOUT: Layout = Layout::New;
+
 pub fn encoded(message: &Message) -> Vec<u8> {
-    message.encode().expect("a sound message")
+    message.encode(LAYOUT).expect("a sound message")
 }
 
 /// A TRANSFORM of V 2 with metadata of four entries.
@@ -128,11 +131,18 @@ pub fn pose(tile: u64, clock: u64) -> Call {
     }
 }
 
+pub fn link_up(clock: u64) -> Call {
+    Call::LinkUp {
+        layout: LAYOUT,
+        clock,
+    }
+}
+
 /// A script that adds so many tiles, brings the link up at 1, has a message for the last tile at 2,
 /// and makes n more calls, each of which is given a clock.
 pub fn panel_script(tiles: u64, n: u64, call: impl Fn(u64) -> Call) -> Vec<u8> {
     let mut calls: Vec<Call> = (0..tiles).map(add).collect();
-    calls.push(Call::LinkUp { clock: 1 });
+    calls.push(link_up(1));
     calls.push(pose(tiles - 1, 2));
     calls.extend((3..3 + n).map(call));
     script::encode(&calls)

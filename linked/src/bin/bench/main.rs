@@ -65,12 +65,13 @@ fn messages() -> [Row; 9] {
 
 /// A stream that is answered by this number.
 fn reader(name: &str, number: u8, stream: &[u8]) -> Row {
-    let fields = linked::read_fields(stream);
+    let layout = inputs::LAYOUT;
+    let fields = linked::read_fields(layout, stream);
     assert_eq!(fields[0], number.into(), "{name}");
-    assert_eq!(fields, rust::read_fields(stream), "{name}");
+    assert_eq!(fields, rust::read_fields(layout, stream), "{name}");
     let times = alternate([
-        timer(|| linked::read(black_box(stream))),
-        timer(|| rust::read(black_box(stream))),
+        timer(|| linked::read(black_box(layout), black_box(stream))),
+        timer(|| rust::read(black_box(layout), black_box(stream))),
     ]);
     Row::new(name, stream.len(), times)
 }
@@ -90,13 +91,19 @@ fn writer() -> Row {
     let content = inputs::bytes(48);
     let message = inputs::plain(b"TRANSFORM", &content);
     let length = inputs::encoded(&message).len();
+    let layout = inputs::LAYOUT;
     let (mut ours, mut rust) = (vec![0; length], vec![0; length]);
-    assert_eq!(linked::write(&message, &mut ours), (0, length), "writer");
-    assert_eq!(rust::write(&message, &mut rust), (0, length), "writer");
+    let written = (0, length);
+    assert_eq!(
+        linked::write(layout, &message, &mut ours),
+        written,
+        "writer"
+    );
+    assert_eq!(rust::write(layout, &message, &mut rust), written, "writer");
     assert_eq!(ours, rust, "writer");
     let times = alternate([
-        timer(|| linked::write(black_box(&message), black_box(&mut ours))),
-        timer(|| rust::write(black_box(&message), black_box(&mut rust))),
+        timer(|| linked::write(black_box(layout), black_box(&message), black_box(&mut ours))),
+        timer(|| rust::write(black_box(layout), black_box(&message), black_box(&mut rust))),
     ]);
     Row::new("TRANSFORM", length, times)
 }

@@ -27,7 +27,7 @@ type Make = fn(u64, u64) -> Call;
 
 /// What is timed, each with the kind of its answer.
 const TIMED: [(&str, u64, Make); 5] = [
-    ("link up", ACCEPTED, |_, clock| Call::LinkUp { clock }),
+    ("link up", ACCEPTED, |_, clock| inputs::link_up(clock)),
     ("message that counts", ACCEPTED, inputs::pose),
     ("message refused, clock", REFUSED, |tile, _| {
         inputs::pose(tile, 0)
@@ -81,7 +81,7 @@ fn print_parts() {
     };
     let (from, mut to) = (inputs::bytes(PANEL), vec![0; PANEL]);
     let times = alternate([
-        timer(|| linked::read(black_box(&bytes))),
+        timer(|| linked::read(inputs::LAYOUT, black_box(&bytes))),
         timer(|| linked::crc64(black_box(&bytes[58..]))),
         timer(|| black_box(&mut to).copy_from_slice(black_box(&from))),
     ]);

@@ -4,6 +4,7 @@ use crate::baseline::message::{self, Answer};
 use crate::baseline::replay::{self, CallAnswer};
 use crate::baseline::{content, crc64};
 use linked::Answered;
+use reference::message::body::Layout;
 use reference::message::Message;
 
 #[inline(never)]
@@ -17,13 +18,13 @@ pub fn content_number(type_text: &[u8], content: &[u8]) -> u8 {
 }
 
 #[inline(never)]
-pub fn read(stream: &[u8]) -> Answer {
-    message::read(stream)
+pub fn read(layout: Layout, stream: &[u8]) -> Answer {
+    message::read(layout, stream)
 }
 
 /// The numbers of an answer, in the order of `linked::read_fields`.
-pub fn read_fields(stream: &[u8]) -> [u64; linked::FIELDS] {
-    let answer = read(stream);
+pub fn read_fields(layout: Layout, stream: &[u8]) -> [u64; linked::FIELDS] {
+    let answer = read(layout, stream);
     [
         answer.number.into(),
         answer.step as u64,
@@ -43,8 +44,8 @@ pub fn read_fields(stream: &[u8]) -> [u64; linked::FIELDS] {
 
 /// The number of the answer and the bytes written, as `linked::write` gives them.
 #[inline(never)]
-pub fn write(message: &Message, out: &mut [u8]) -> (u8, usize) {
-    match message::write(message, out) {
+pub fn write(layout: Layout, message: &Message, out: &mut [u8]) -> (u8, usize) {
+    match message::write(layout, message, out) {
         Ok(count) => (0, count),
         Err(number) => (number, 0),
     }

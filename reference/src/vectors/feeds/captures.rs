@@ -1,21 +1,28 @@
-//! The captured streams, cut in many ways.
+//! The captured streams, cut in many ways. Their messages are all of V 1, so that the layouts of
+//! the feeds take turns.
 
-use super::{by_chance, cut_at, feed, pieces, MEDIUM, WIDE};
+use super::{by_chance, cut_at, feed, opened_in, pieces, MEDIUM, WIDE};
 use crate::feed::Pushes;
+use crate::message::body::Layout;
 use crate::random::Random;
 use crate::vectors::streams::{messages, CAPTURES};
 
 const SEED: u64 = 13;
 
 pub fn feeds() -> Vec<Pushes> {
-    [
+    let feeds = [
         in_pieces_of_a_header(),
         in_bytes(),
         around_headers_and_ends(),
         long_by_chance(),
         short_by_chance(),
-    ]
-    .concat()
+    ];
+    let feeds = feeds.concat().into_iter();
+    let layouts = Layout::BOTH.into_iter().cycle();
+    let feeds = layouts.zip(feeds);
+    feeds
+        .map(|(layout, feed)| opened_in(layout, feed))
+        .collect()
 }
 
 /// Fragments as long as a header, and by one byte shorter and longer.

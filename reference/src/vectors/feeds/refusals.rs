@@ -1,16 +1,25 @@
-//! A message for each number from 2 to 11, between two sound ones.
+//! A message for each number from 2 to 11, between two sound ones, in each layout.
 
-use super::{by_chance, feed, pieces, MEDIUM};
+use super::{by_chance, feed, opened_in, pieces, MEDIUM};
 use crate::feed::Pushes;
+use crate::message::body::Layout;
 use crate::random::Random;
 use crate::vectors::streams::between_sound_ones;
 
 const SEED: u64 = 19;
 
-/// In one piece, byte by byte, and by chance, also in a buffer that only a header fits.
 pub fn feeds() -> Vec<Pushes> {
+    let of_layout = |layout| {
+        let feeds = of_streams(layout).into_iter();
+        feeds.map(move |feed| opened_in(layout, feed))
+    };
+    Layout::BOTH.into_iter().flat_map(of_layout).collect()
+}
+
+/// In one piece, byte by byte, and by chance, also in a buffer that only a header fits.
+fn of_streams(layout: Layout) -> Vec<Pushes> {
     let mut random = Random::new(SEED);
-    let feeds = between_sound_ones().into_iter().flat_map(|stream| {
+    let feeds = between_sound_ones(layout).into_iter().flat_map(|stream| {
         let mut chance = |room| by_chance(&mut random, room, &stream, &[1, 2, 59, 90, 300]);
         [
             feed(MEDIUM, &[&stream]),
@@ -34,9 +43,9 @@ mod tests {
     #[test]
     fn the_feed_goes_on_after_most_refused_messages() {
         let feeds = feeds();
-        assert_eq!(feeds.len(), 50);
+        assert_eq!(feeds.len(), 100);
         for (feed, place) in feeds.iter().zip(0..) {
-            let number = 2 + place / 5;
+            let number = 2 + place % 50 / 5;
             let expected = match (feed.room, number) {
                 (58, 2 | 3) => vec![20, number],
                 (58, _) => vec![20; 3],

@@ -1,19 +1,21 @@
 //! Messages that fit their buffer to the byte, and such that exceed it.
 
-use super::{by_chance, cut_at, feed, pieces, with, WIDE};
+use super::{by_chance, cut_at, feed, opened_in, pieces, with, WIDE};
 use crate::feed::Pushes;
+use crate::message::body::Layout;
 use crate::random::Random;
 use crate::vectors::samples::{with_changes, Sample};
 
 const SEED: u64 = 17;
 
 pub fn feeds() -> Vec<Pushes> {
-    [around_the_lengths(), announced(), last_byte(), fills()].concat()
+    let around = Layout::BOTH.map(around_the_lengths).concat();
+    [around, announced(), last_byte(), fills()].concat()
 }
 
 /// Messages of three lengths: 58, 106, and that of one with all sections.
-fn stream() -> Vec<u8> {
-    let extended = Sample::extended().bytes();
+fn stream(layout: Layout) -> Vec<u8> {
+    let extended = Sample::extended(layout).bytes();
     let transform = Sample::plain(b"TRANSFORM", &[7; 48]).bytes();
     let status = Sample::plain(b"GET_STATUS", &[]).bytes();
     [&extended[..], &transform, &status, &extended].concat()
@@ -21,17 +23,17 @@ fn stream() -> Vec<u8> {
 
 /// Buffers of each of those lengths, by one byte shorter and longer, and one for all: in one piece,
 /// byte by byte, and by chance.
-fn around_the_lengths() -> Vec<Pushes> {
+fn around_the_lengths(layout: Layout) -> Vec<Pushes> {
     let mut random = Random::new(SEED);
-    let extended = Sample::extended().bytes().len();
-    let stream = stream();
+    let extended = Sample::extended(layout).bytes().len();
+    let stream = stream(layout);
     let around = [58, 59, 105, 106, 107, extended - 1, extended, extended + 1];
     let rooms = around.into_iter().chain([WIDE]);
     let feeds = rooms.flat_map(|room| {
         let chances = by_chance(&mut random, room, &stream, &[1, 2, 59, 90]);
         [feed(room, &[&stream]), pieces(room, &stream, 1), chances]
     });
-    feeds.collect()
+    feeds.map(|feed| opened_in(layout, feed)).collect()
 }
 
 /// The largest body is announced, and some of it comes: nothing of it is kept. A BODY_SIZE above
@@ -75,14 +77,15 @@ fn last_byte() -> Vec<Pushes> {
 
 /// Buffers that were all of other values before.
 fn fills() -> Vec<Pushes> {
-    let stream = stream();
-    let of_fill = |fill| Pushes::new(110, fill, &[&stream[..170], &stream[170..200]]);
+    let layout = Layout::Old;
+    let stream = stream(layout);
+    let of_fill = |fill| Pushes::new(layout, 110, fill, &[&stream[..170], &stream[170..200]]);
     [0, 1, 0x7F, 0x80, 0xFF].map(of_fill).to_vec()
 }
 
 #[cfg(test)]
 mod tests {
-    use super::{announced, around_the_lengths, last_byte, stream};
+    use super::{announced, around_the_lengths, last_byte, stream, Layout};
     use crate::vectors::feeds::lines;
     use crate::vectors::samples::Sample;
 
@@ -90,21 +93,23 @@ mod tests {
     /// headers, and 7 bytes of keys and values.
     #[test]
     fn the_lengths_are_those_of_the_comments() {
-        assert_eq!(Sample::extended().bytes().len(), 110);
-        assert_eq!(stream().len(), 110 + 106 + 58 + 110);
+        for layout in Layout::BOTH {
+            assert_eq!(Sample::extended(layout).bytes().len(), 110);
+            assert_eq!(stream(layout).len(), 110 + 106 + 58 + 110);
+        }
     }
 
     /// How many of the messages fit.
     #[test]
     fn one_byte_decides() {
-        let feeds = around_the_lengths();
+        let feeds = Layout::BOTH.map(around_the_lengths).concat();
         let sound = feeds.iter().map(lines).map(|lines| {
             let [fits, exceeds] = [" read 0 ", " read 20 "].map(|text| lines.matches(text).count());
             assert_eq!(fits + exceeds, 4);
             fits
         });
         let expected = [1, 1, 1, 2, 2, 2, 4, 4, 4].map(|count| [count; 3]);
-        assert_eq!(sound.collect::<Vec<_>>(), expected.concat());
+        assert_eq!(sound.collect::<Vec<_>>(), expected.concat().repeat(2));
     }
 
     #[test]

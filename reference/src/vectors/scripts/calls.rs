@@ -1,6 +1,7 @@
 //! Calls and messages in few words.
 
 use super::Script;
+use crate::message::body::Layout;
 use crate::panel::Call;
 use crate::vectors::samples::Sample;
 
@@ -18,8 +19,12 @@ pub fn add(type_text: &[u8], name: &[u8], hold_time: u64) -> Call {
     }
 }
 
+pub fn up_in(layout: Layout, clock: u64) -> Call {
+    Call::LinkUp { layout, clock }
+}
+
 pub fn up(clock: u64) -> Call {
-    Call::LinkUp { clock }
+    up_in(Layout::New, clock)
 }
 
 pub fn down(clock: u64) -> Call {
@@ -56,7 +61,13 @@ pub fn needle(length: usize, value: u8) -> Vec<u8> {
 /// The first calls of P10: tile 0 shows the Arm for 500 ms, the link is up since 1000, and a pose
 /// of sevens counted at 1200.
 pub fn start() -> [Call; 3] {
-    [add(TRANSFORM, ARM, 500), up(1000), send(1200, &arm(7))]
+    start_in(Layout::New)
+}
+
+/// The same, the link up naming a layout.
+fn start_in(layout: Layout) -> [Call; 3] {
+    let link = up_in(layout, 1000);
+    [add(TRANSFORM, ARM, 500), link, send(1200, &arm(7))]
 }
 
 /// What those are answered.
@@ -65,5 +76,9 @@ pub const START: &str = "added 0, accepted, accepted";
 
 /// These calls after those, and then a look at this clock.
 pub fn after_start(calls: &[Call], clock: u64) -> Script {
-    Script::of(&[&start(), calls].concat(), clock)
+    after_start_in(Layout::New, calls, clock)
+}
+
+pub fn after_start_in(layout: Layout, calls: &[Call], clock: u64) -> Script {
+    Script::of(&[&start_in(layout), calls].concat(), clock)
 }

@@ -1,8 +1,9 @@
 //! Scripts by chance: mostly good calls, at clocks that rise in steps about as long as the hold
-//! times.
+//! times, with link ups of both layouts.
 
-use super::calls::{add, down, look, message, send, up, ARM, NEEDLE, POSITION, TRANSFORM};
+use super::calls::{add, down, look, message, send, up_in, ARM, NEEDLE, POSITION, TRANSFORM};
 use super::{refusals, Script};
+use crate::message::body::Layout;
 use crate::panel::Call;
 use crate::random::Random;
 use crate::script::Fields;
@@ -37,7 +38,8 @@ pub fn by_chance(random: &mut Random, others: &[Vec<u8>]) -> Script {
     Chooser::new(random, others).script()
 }
 
-/// Messages that no tile shows: one for each number of the reader, and sound ones of other types.
+/// Messages that no tile shows: one for each number of the reader in each layout, and sound ones of
+/// other types.
 pub fn other_messages() -> Vec<Vec<u8>> {
     let sound = [
         Sample::plain(b"IMAGE", &images::p9().bytes()),
@@ -45,10 +47,8 @@ pub fn other_messages() -> Vec<Vec<u8>> {
         Sample::plain(b"STATUS", b"ok"),
     ];
     let sound = sound.iter().map(Sample::bytes);
-    refusals::refused_messages()
-        .into_iter()
-        .chain(sound)
-        .collect()
+    let refused = Layout::BOTH.map(refusals::refused_messages).concat();
+    refused.into_iter().chain(sound).collect()
 }
 
 /// Chooses the calls of one script. What it remembers makes good calls likely, and has no part in
@@ -58,8 +58,9 @@ struct Chooser<'a> {
     others: &'a [Vec<u8>],
     /// The last clock given with a link call or a message.
     clock: u64,
-    /// Whether the last link call was a link up.
+    /// Whether the last link call was a link up, and the layout of the last link up.
     linked: bool,
+    layout: Layout,
     /// The hold time of most tiles.
     hold_time: u64,
     /// The types and names of the tiles, and the place of the one that the last message was for.
@@ -76,6 +77,7 @@ impl<'a> Chooser<'a> {
             others,
             clock,
             linked: false,
+            layout: Layout::New,
             hold_time,
             tiles: Vec::new(),
             sent: 0,
@@ -115,8 +117,7 @@ impl<'a> Chooser<'a> {
             (0..count).map(|_| self.add()).collect()
         };
         if self.random.below(8) > 0 {
-            self.linked = true;
-            calls.push(up(self.step()));
+            calls.push(self.up());
         }
         calls
     }
@@ -141,13 +142,17 @@ impl<'a> Chooser<'a> {
         } else {
             &[true, true, false]
         };
-        self.linked = self.random.pick(choices);
-        let clock = self.step();
-        if self.linked {
-            up(clock)
-        } else {
-            down(clock)
+        if self.random.pick(choices) {
+            return self.up();
         }
+        self.linked = false;
+        down(self.step())
+    }
+
+    fn up(&mut self) -> Call {
+        self.linked = true;
+        self.layout = self.random.pick(&Layout::BOTH);
+        up_in(self.layout, self.step())
     }
 
     /// Mostly one of the first names, so that some come twice.
@@ -239,7 +244,9 @@ impl<'a> Chooser<'a> {
             return plain;
         }
         let further = self.random.pick(&[0, 1, 4]);
+        let [new, old] = Layout::BOTH;
         Sample {
+            layout: self.random.pick(&[self.layout, self.layout, new, old]),
             version: 2,
             time_stamp: self.random.word(),
             id: self.random.u32(),
@@ -273,10 +280,14 @@ impl<'a> Chooser<'a> {
     fn fill(&mut self, fields: &mut Fields) {
         let [length, kind] = [5, 252].map(|bound| self.random.below(bound));
         let bytes = self.random.bytes(length);
+        let word = self.random.word();
         match fields.kind {
-            0 => fields.clock = self.random.word(),
-            1 | 2 => (fields.number, fields.first) = (self.random.word(), bytes),
-            3 => (fields.number, fields.second) = (self.random.word(), bytes),
+            0 => fields.clock = word,
+            // Any number but 1 names the new layout.
+            1 if fields.number != 1 => (fields.number, fields.first) = (word.max(2), bytes),
+            1 => fields.first = bytes,
+            2 => (fields.number, fields.first) = (word, bytes),
+            3 => (fields.number, fields.second) = (word, bytes),
             _ => {
                 fields.kind = 4 + u8::try_from(kind).expect("a kind fits a byte");
                 fields.second = bytes;

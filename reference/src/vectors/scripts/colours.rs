@@ -1,8 +1,9 @@
 //! What a tile shows: empty, green up to the hold time, grey past it; the last value and its age.
 
-use super::calls::{add, after_start, arm, look, message, needle, send, start, up};
+use super::calls::{add, after_start, after_start_in, arm, look, message, needle, send, start, up};
 use super::calls::{ARM, NEEDLE, POSITION, TRANSFORM};
 use super::Script;
+use crate::message::body::Layout;
 use crate::vectors::samples::Sample;
 
 pub fn scripts() -> Vec<Script> {
@@ -20,7 +21,8 @@ pub fn scripts() -> Vec<Script> {
         one_name_of_two_types(),
         positions_of_each_length(),
         a_shorter_value_after_a_longer(),
-        version_2_with_every_section(),
+        version_2_with_every_section(Layout::New),
+        version_2_with_every_section(Layout::Old),
         any_time_stamp(),
         clocks_of_0(),
         the_last_clock(),
@@ -166,11 +168,11 @@ fn a_shorter_value_after_a_longer() -> Script {
 }
 
 /// The value is the content alone.
-fn version_2_with_every_section() -> Script {
+fn version_2_with_every_section(layout: Layout) -> Script {
     let extended = |content: &[u8], type_text: &[u8]| Sample {
         content: content.to_vec(),
         type_text: type_text.to_vec(),
-        ..Sample::extended()
+        ..Sample::extended(layout)
     };
     let transform = extended(&[8; 48], TRANSFORM);
     let bare = transform.with(|sample| (sample.further, sample.metadata) = (vec![], vec![]));
@@ -184,7 +186,7 @@ fn version_2_with_every_section() -> Script {
         send(1301, &position.bytes()),
         look(1, 1301),
     ];
-    after_start(&calls, 1301)
+    after_start_in(layout, &calls, 1301)
 }
 
 /// A time stamp has no effect on what is shown (rule 3.13).
@@ -236,7 +238,7 @@ mod tests {
     use super::{
         an_add_ends_no_green, around_the_hold_time, empty_until_a_message_counts,
         one_name_of_two_types, one_tile_of_two, p10, p11, p12, the_last_clock, the_longest_age,
-        Script,
+        version_2_with_every_section, Layout, Script,
     };
     use crate::vectors::scripts::calls::START;
 
@@ -275,6 +277,16 @@ mod tests {
         let line = "refused 13, added 1, empty, accepted, green 1 7, accepted, green 1 8 \
                     | green 0 9, green 1 8";
         assert_eq!(one_name_of_two_types().brief(), format!("{START}, {line}"));
+    }
+
+    #[test]
+    fn messages_of_version_2_in_their_layout() {
+        let line = "accepted, green 0 8, accepted, refused 13, added 1, accepted, green 0 9 \
+                    | green 1 8, green 0 9";
+        for layout in Layout::BOTH {
+            let brief = version_2_with_every_section(layout).brief();
+            assert_eq!(brief, format!("{START}, {line}"));
+        }
     }
 
     #[test]

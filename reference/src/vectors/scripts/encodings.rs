@@ -154,7 +154,8 @@ fn long_parts() -> Vec<Vec<u8>> {
     scripts.chain([both]).collect()
 }
 
-/// Every field that a call ignores holds something, the parts too.
+/// Every field that a call ignores holds something, the parts too. The link up's number is none of
+/// those; it names the new layout.
 fn ignored_fields() -> Vec<u8> {
     let filled = whole().map(|call| {
         let fields = Fields::of(&call);

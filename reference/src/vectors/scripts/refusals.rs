@@ -1,9 +1,10 @@
 //! Every number of a refusal from every call that can give it, and the order of the checks. Those
 //! of an add stand with the tiles.
 
-use super::calls::{add, after_start, arm, down, look, message, needle, send, start, up};
-use super::calls::{ARM, NEEDLE, POSITION, TRANSFORM};
+use super::calls::{add, after_start, after_start_in, arm, down, look, message};
+use super::calls::{needle, send, start, up, up_in, ARM, NEEDLE, POSITION, TRANSFORM};
 use super::Script;
+use crate::message::body::Layout;
 use crate::vectors::samples::{set, Sample};
 use crate::vectors::{bundles, images, streams};
 
@@ -12,12 +13,14 @@ pub fn scripts() -> Vec<Script> {
         earlier_clocks(),
         the_clock_comes_before_the_link(),
         the_link_comes_before_the_bytes(),
-        the_bytes_come_before_what_is_left_over(),
+        the_bytes_come_before_what_is_left_over(Layout::New),
+        the_bytes_come_before_what_is_left_over(Layout::Old),
         what_is_left_over_comes_before_the_tiles(),
         the_tile_comes_before_the_clock(),
         no_tiles(),
     ];
-    [single.to_vec(), numbers_of_the_reader(), for_nobody()].concat()
+    let numbers = Layout::BOTH.map(numbers_of_the_reader).concat();
+    [single.to_vec(), numbers, for_nobody()].concat()
 }
 
 /// 15 of each call that has a clock, one before the panel's; at the panel's none is refused.
@@ -37,23 +40,23 @@ fn earlier_clocks() -> Script {
 }
 
 /// A message for each number of the reader from 1 to 11.
-pub fn refused_messages() -> Vec<Vec<u8>> {
+pub fn refused_messages(layout: Layout) -> Vec<Vec<u8>> {
     let short = vec![arm(8)[..105].to_vec()];
-    [short, streams::refused()].concat()
+    [short, streams::refused(layout)].concat()
 }
 
 /// Each of them after P10's message: it changes nothing, and the clock stays.
-fn numbers_of_the_reader() -> Vec<Script> {
-    let refused = refused_messages().into_iter();
+fn numbers_of_the_reader(layout: Layout) -> Vec<Script> {
+    let refused = refused_messages(layout).into_iter();
     let scripts = refused.map(|bytes| {
         let calls = [
             send(1300, &bytes),
             look(0, 1299),
-            up(1299),
+            up_in(layout, 1299),
             send(1299, &bytes),
             look(0, 1299),
         ];
-        after_start(&calls, 1298)
+        after_start_in(layout, &calls, 1298)
     });
     scripts.collect()
 }
@@ -78,7 +81,8 @@ fn the_clock_comes_before_the_link() -> Script {
 /// 14 before every number of the reader, before 12 and before 13.
 fn the_link_comes_before_the_bytes() -> Script {
     let others = [followed(&arm(8)), needle(12, 8), b"".to_vec()];
-    let refused = refused_messages().into_iter().chain(others);
+    let refused = Layout::BOTH.map(refused_messages).concat();
+    let refused = refused.into_iter().chain(others);
     let sent = refused.map(|bytes| send(1300, &bytes));
     let calls: Vec<_> = [down(1300)].into_iter().chain(sent).collect();
     after_start(&calls, 1300)
@@ -89,12 +93,12 @@ fn followed(bytes: &[u8]) -> Vec<u8> {
 }
 
 /// Of the reader's numbers those from 4 on, whose messages can be followed by something.
-fn the_bytes_come_before_what_is_left_over() -> Script {
-    let refused = refused_messages().into_iter().skip(3);
+fn the_bytes_come_before_what_is_left_over(layout: Layout) -> Script {
+    let refused = refused_messages(layout).into_iter().skip(3);
     let sent = refused.map(|bytes| send(1300, &followed(&bytes)));
     let wrong_crc = set(&arm(8), 57, 1);
     let last = [send(1300, &followed(&wrong_crc)), send(1300, &wrong_crc)];
-    after_start(&sent.chain(last).collect::<Vec<_>>(), 1200)
+    after_start_in(layout, &sent.chain(last).collect::<Vec<_>>(), 1200)
 }
 
 /// 12 before 13.
@@ -162,7 +166,7 @@ mod tests {
         earlier_clocks, for_nobody, no_tiles, numbers_of_the_reader,
         the_bytes_come_before_what_is_left_over, the_clock_comes_before_the_link,
         the_link_comes_before_the_bytes, the_tile_comes_before_the_clock,
-        what_is_left_over_comes_before_the_tiles,
+        what_is_left_over_comes_before_the_tiles, Layout, Script,
     };
     use crate::vectors::scripts::calls::START;
 
@@ -182,15 +186,19 @@ mod tests {
         assert_eq!(earlier_clocks().brief(), expected);
     }
 
+    fn scripts_of_the_reader() -> Vec<Script> {
+        Layout::BOTH.map(numbers_of_the_reader).concat()
+    }
+
     #[test]
     fn the_readers_numbers() {
-        for (script, number) in numbers_of_the_reader().iter().zip(1..) {
+        for (script, number) in scripts_of_the_reader().iter().zip((1..=11).cycle()) {
             let refusal = format!("refused {number}");
             let looks = format!("{refusal}, green 99 7, accepted, {refusal}, grey 99 7");
             let expected = format!("{START}, {looks} | refused 15");
             assert_eq!(script.brief(), expected);
         }
-        assert_eq!(numbers_of_the_reader().len(), 11);
+        assert_eq!(scripts_of_the_reader().len(), 22);
     }
 
     #[test]
@@ -198,11 +206,14 @@ mod tests {
         let line = "added 0, refused 14, accepted, refused 15, refused 14, refused 15, accepted, \
                     refused 15, refused 1 | empty";
         assert_eq!(the_clock_comes_before_the_link().brief(), line);
-        let line = format!("{START}, accepted, {} | grey 100 7", refused([14; 14]));
+        let line = format!("{START}, accepted, {} | grey 100 7", refused([14; 25]));
         assert_eq!(the_link_comes_before_the_bytes().brief(), line);
         let numbers = (4..=11).chain([5, 5]);
         let line = format!("{START}, {} | green 0 7", refused(numbers));
-        assert_eq!(the_bytes_come_before_what_is_left_over().brief(), line);
+        for layout in Layout::BOTH {
+            let script = the_bytes_come_before_what_is_left_over(layout);
+            assert_eq!(script.brief(), line);
+        }
         let line = format!("{START}, {}, green 0 7 | green 0 7", refused([12, 13, 12]));
         assert_eq!(what_is_left_over_comes_before_the_tiles().brief(), line);
         let first = refused([19, 15, 19, 19]);

@@ -4,6 +4,7 @@ use super::calls::{add, after_start, arm, look, message, needle, send};
 use super::calls::{ARM, NEEDLE, POSITION, TRANSFORM};
 use super::Script;
 use crate::crc::crc;
+use crate::message::body::Layout;
 use crate::vectors::samples::{Fields, Sample};
 
 pub fn scripts() -> Vec<Script> {
@@ -91,7 +92,7 @@ fn smaller_sizes() -> Vec<Vec<u8>> {
     let extended = Sample {
         type_text: TRANSFORM.to_vec(),
         content: vec![8; 48],
-        ..Sample::extended()
+        ..Sample::extended(Layout::New)
     };
     let rest = [of_another.bytes(), with_size(&extended, 48)];
     transforms

@@ -1,11 +1,14 @@
 -- `message::body::put_extended` meets its contract: seven stores, each where the one before it ends, are one of the joined fields.
 use Prim.Native.Nat.{ℕ, _+_}
-use mathlib.Core.Path.{ap, _∙_}
+use mathlib.Core.Path.{ap, ap₂, sym, _∙_, subst}
 use mathlib.Core.List.{List}
 use lib.ListN.{length}
 use lib.Seq.{sets}
 use borrow.Author.Needs.{needs}
 use Rattle.fields.specs.Numbers.{beBytes}
+use Rattle.metadata.specs.Check.{indexIn}
+use Rattle.message.specs.declared.extended.ExtendedNumbers.{ExtendedNumbers}
+use Rattle.message.specs.Body.{extendedNumbers, MetadataFits}
 use Rattle.message.specs.Writer.{sectionsGiven}
 use Rattle.message.proofs.Laws.Body.{extended-stored}
 use Rattle.message.proofs.body.put_extended.Statement.{statement}
@@ -17,14 +20,18 @@ add-content-at c = search needs
 add-metadata-at : tie.Need-add-metadata-at
 add-metadata-at c = search needs
 
+index-size-requires : tie.Need-index-size-requires
+index-size-requires c κs = search needs
+
+extended-numbers-requires : tie.Need-extended-numbers-requires
+extended-numbers-requires c κs = let a = c .before .before .before .before .before .args in
+    subst (λ (k : ℕ). MetadataFits (a .layout) k (length (a .metadata .now))) (sym (c .index-size .ensures)) (c .before .before .before .before .before .pre .1)
+
 cast-put16 : tie.Need-cast-put16
 cast-put16 c = search needs
 
 put16-requires : tie.Need-put16-requires
 put16-requires c κs = search needs
-
-cast-put16-2 : tie.Need-cast-put16-2
-cast-put16-2 c = search needs
 
 put16-requires-2 : tie.Need-put16-requires-2
 put16-requires-2 c κs = search needs
@@ -48,21 +55,32 @@ same-length : tie.Need-same-length
 same-length c = search needs
 
 returns : tie.Need-returns
-returns c = let a = c .before .before .before .before .before .before .before .before .before .before .before .before .before .before .before .before .before .before .before .before .before .before .before .before .before .before .before .before .before .before .before .before .args in
+returns c =
+    -- the seven stores, from the last to the first
+    let c7 = c .before .before in
+    let c6 = c7 .before .before .before .before in
+    let c5 = c6 .before .before .before .before in
+    let c4 = c5 .before .before .before .before in
+    let c3 = c4 .before .before .before .before in
+    let c2 = c3 .before .before .before .before in
+    let c1 = c2 .before .before .before .before in
+    let c0 = c1 .before .before in
+    let a = c0 .before .before .before .before .before .before .args in
     let n : ℕ = 12 + length (a .further .now) in
-    c .before .before .put3 .ensures
-    ∙ ap (λ (r : List ℕ). sets r (n + length (a .content .now)) (a .metadata .now)) (
-    c .before .before .before .before .before .before .put2 .ensures
-    ∙ ap (λ (r : List ℕ). sets r n (a .content .now)) (
-    c .before .before .before .before .before .before .before .before .before .before .put .ensures
-    ∙ ap (λ (r : List ℕ). sets r 12 (a .further .now)) (
-    c .before .before .before .before .before .before .before .before .before .before .before .before .before .before .put322 .ensures
-    ∙ ap (λ (r : List ℕ). sets r 8 (beBytes 4 0)) (
-    c .before .before .before .before .before .before .before .before .before .before .before .before .before .before .before .before .before .before .put32 .ensures
-    ∙ ap (λ (r : List ℕ). sets r 4 (beBytes 4 (a .id))) (
-    c .before .before .before .before .before .before .before .before .before .before .before .before .before .before .before .before .before .before .before .before .before .before .put162 .ensures
-    ∙ ap (λ (r : List ℕ). sets r 2 (beBytes 2 (length (a .metadata .now)))) (c .before .before .before .before .before .before .before .before .before .before .before .before .before .before .before .before .before .before .before .before .before .before .before .before .before .before .put16 .ensures))))))
-    ∙ extended-stored (a .out .now) (sectionsGiven (a .id) (a .further .now) (a .content .now) (a .metadata .now))
+    let e = c0 .extended-numbers .ensures
+    ∙ ap (λ (k : ℕ). extendedNumbers (a .layout) k (length (a .metadata .now)) (a .id)) (c0 .before .index-size .ensures) in
+    c7 .put3 .ensures
+    ∙ ap (λ (r : List ℕ). sets r (n + length (a .content .now)) (a .metadata .now))
+    (c6 .put2 .ensures
+    ∙ ap (λ (r : List ℕ). sets r n (a .content .now))
+    (c5 .put .ensures
+    ∙ ap (λ (r : List ℕ). sets r 12 (a .further .now))
+    (c4 .put322 .ensures
+    ∙ ap₂ (λ (r : List ℕ) (x : ExtendedNumbers). sets r 8 (beBytes 4 (x .fourth)))
+    (c3 .put32 .ensures
+    ∙ ap₂ (λ (r : List ℕ) (x : ExtendedNumbers). sets r 4 (beBytes 4 (x .third)))
+    (c2 .put162 .ensures ∙ ap₂ (λ (r : List ℕ) (x : ExtendedNumbers). sets r 2 (beBytes 2 (x .second))) (c1 .put16 .ensures) e) e) e)))
+    ∙ extended-stored (a .layout) (indexIn (a .metadata .now)) (sectionsGiven (a .id) (a .further .now) (a .content .now) (a .metadata .now)) (a .out .now)
 
 pub put-extended-spec : {M : Type 1} → statement M
 put-extended-spec =
@@ -70,9 +88,10 @@ put-extended-spec =
     (tie.spec
     add-content-at
     add-metadata-at
+    index-size-requires
+    extended-numbers-requires
     cast-put16
     put16-requires
-    cast-put16-2
     put16-requires-2
     put32-requires
     put32-requires-2

@@ -16,9 +16,10 @@ print-answer-requires c κs = search needs
 
 returns : tie.Need-returns
 returns c =
+    let layout = c .before .before .before .before .args .layout in
     let answer = c .before .read in
     let rest = c .before .before .rest in
-    ap (λ a. a .step) (answer .ensures) ∙ ap (λ s. readOf s .step) (rest .ensures)
+    ap (λ a. a .step) (answer .ensures) ∙ ap (λ s. readOf layout s .step) (rest .ensures)
 
 pub print-at-spec : {M : Type 1} → statement M
 print-at-spec = tie.close (tie.spec rest-requires read-requires print-answer-requires returns)

@@ -4,8 +4,8 @@ use super::content::content_number;
 use super::crc64::crc64;
 use super::fields::{be16, be32, part, put, put16, put32};
 use super::header::{self, HeaderFields, HeaderRead};
-use super::metadata::metadata_number;
-use reference::message::body::Body;
+use super::metadata::{count, index_size, metadata_number};
+use reference::message::body::{Body, Layout};
 use reference::message::Message;
 
 #[derive(Default)]
@@ -37,26 +37,58 @@ struct Places {
     metadata_len: usize,
 }
 
-fn is_extended(body: &[u8]) -> bool {
+fn section_size(layout: Layout, body: &[u8]) -> usize {
+    let size = usize::from(be16(body, 2));
+    match layout {
+        Layout::New => size + be32(body, 4) as usize,
+        Layout::Old => size,
+    }
+}
+
+fn id_of(layout: Layout, body: &[u8]) -> u32 {
+    match layout {
+        Layout::New => be32(body, 8),
+        Layout::Old => be32(body, 4),
+    }
+}
+
+fn reserved_ok(layout: Layout, body: &[u8]) -> bool {
+    match layout {
+        Layout::New => true,
+        Layout::Old => be32(body, 8) == 0,
+    }
+}
+
+fn is_extended(layout: Layout, body: &[u8]) -> bool {
     if body.len() < 12 {
         return false;
     }
     let size = usize::from(be16(body, 0));
-    if size < 12 || be32(body, 8) != 0 {
+    if size < 12 || !reserved_ok(layout, body) {
         return false;
     }
-    size + usize::from(be16(body, 2)) <= body.len()
+    size + section_size(layout, body) <= body.len()
 }
 
-fn body_number(version: u16, body: &[u8]) -> u8 {
-    if version != 2 || is_extended(body) {
+fn body_number(layout: Layout, version: u16, body: &[u8]) -> u8 {
+    if version != 2 || is_extended(layout, body) {
         0
     } else {
         6
     }
 }
 
-fn sections(version: u16, body: &[u8]) -> Places {
+fn index_number(layout: Layout, version: u16, body: &[u8], metadata: &[u8]) -> u8 {
+    if version != 2 {
+        return 0;
+    }
+    match layout {
+        Layout::New if usize::from(be16(body, 2)) != index_size(metadata) => 7,
+        _ => 0,
+    }
+}
+
+fn sections(layout: Layout, version: u16, body: &[u8]) -> Places {
     let n = body.len();
     if version != 2 {
         return Places {
@@ -70,9 +102,9 @@ fn sections(version: u16, body: &[u8]) -> Places {
         };
     }
     let size = usize::from(be16(body, 0));
-    let metadata_len = usize::from(be16(body, 2));
+    let metadata_len = section_size(layout, body);
     Places {
-        id: be32(body, 4),
+        id: id_of(layout, body),
         further_at: 12,
         further_len: size - 12,
         content_at: size,
@@ -107,7 +139,7 @@ fn contents_number(type_text: &[u8], content: &[u8], metadata: &[u8]) -> u8 {
     content_number(type_text, content)
 }
 
-fn body_checks(version: u16, crc: u64, type_text: &[u8], body: &[u8]) -> u8 {
+fn body_checks(layout: Layout, version: u16, crc: u64, type_text: &[u8], body: &[u8]) -> u8 {
     let fault = version_number(version);
     if fault != 0 {
         return fault;
@@ -115,20 +147,22 @@ fn body_checks(version: u16, crc: u64, type_text: &[u8], body: &[u8]) -> u8 {
     if crc64(body) != crc {
         return 5;
     }
-    let fault = body_number(version, body);
+    let fault = body_number(layout, version, body);
     if fault != 0 {
         return fault;
     }
-    let places = sections(version, body);
-    contents_number(
-        type_text,
-        part(body, places.content_at, places.content_len),
-        part(body, places.metadata_at, places.metadata_len),
-    )
+    let places = sections(layout, version, body);
+    let metadata = part(body, places.metadata_at, places.metadata_len);
+    let fault = index_number(layout, version, body, metadata);
+    if fault != 0 {
+        return fault;
+    }
+    let content = part(body, places.content_at, places.content_len);
+    contents_number(type_text, content, metadata)
 }
 
-fn accept(header: HeaderRead, body: &[u8]) -> Answer {
-    let places = sections(header.version, body);
+fn accept(layout: Layout, header: HeaderRead, body: &[u8]) -> Answer {
+    let places = sections(layout, header.version, body);
     Answer {
         number: 0,
         step: 58 + header.body_size,
@@ -146,7 +180,7 @@ fn accept(header: HeaderRead, body: &[u8]) -> Answer {
     }
 }
 
-pub fn read(stream: &[u8]) -> Answer {
+pub fn read(layout: Layout, stream: &[u8]) -> Answer {
     let header = header::read_header(stream);
     if header.number != 0 {
         return refusal(header.number, 0);
@@ -156,11 +190,12 @@ pub fn read(stream: &[u8]) -> Answer {
         return refusal(1, 0);
     }
     let body = part(stream, 58, size);
-    let fault = body_checks(header.version, header.crc, header::type_text(stream), body);
+    let type_text = header::type_text(stream);
+    let fault = body_checks(layout, header.version, header.crc, type_text, body);
     if fault != 0 {
         return refusal(fault, 58 + size);
     }
-    accept(header, body)
+    accept(layout, header, body)
 }
 
 impl Answer {
@@ -198,25 +233,32 @@ fn within_limit(version: u16, body: &Body) -> bool {
     body.further.len() <= LIMIT && body.metadata.len() <= LIMIT && body_len(version, body) <= LIMIT
 }
 
-fn is_fit(version: u16, body: &Body) -> bool {
+fn section_fits(layout: Layout, metadata: &[u8]) -> bool {
+    match layout {
+        Layout::New => count(metadata) <= 8_191,
+        Layout::Old => metadata.len() <= 65_535,
+    }
+}
+
+fn is_fit(layout: Layout, version: u16, body: &Body) -> bool {
     if version == 2 {
-        return body.further.len() <= 65_523 && body.metadata.len() <= 65_535;
+        return body.further.len() <= 65_523 && section_fits(layout, body.metadata);
     }
     body.id == 0 && body.further.is_empty() && body.metadata.is_empty()
 }
 
-fn sections_checks(version: u16, type_text: &[u8], body: &Body) -> u8 {
+fn sections_checks(layout: Layout, version: u16, type_text: &[u8], body: &Body) -> u8 {
     let fault = version_number(version);
     if fault != 0 {
         return fault;
     }
-    if !is_fit(version, body) {
+    if !is_fit(layout, version, body) {
         return 6;
     }
     contents_number(type_text, body.content, body.metadata)
 }
 
-fn write_checks(message: &Message) -> u8 {
+fn write_checks(layout: Layout, message: &Message) -> u8 {
     let fault = header::names_number(message.type_text, message.device_name);
     if fault != 0 {
         return fault;
@@ -224,30 +266,41 @@ fn write_checks(message: &Message) -> u8 {
     if !within_limit(message.version, &message.body) {
         return 3;
     }
-    sections_checks(message.version, message.type_text, &message.body)
+    sections_checks(layout, message.version, message.type_text, &message.body)
 }
 
-fn put_extended(body: &Body, out: &mut [u8]) {
+fn put_front(layout: Layout, body: &Body, out: &mut [u8]) {
+    let len = body.metadata.len();
+    let index = index_size(body.metadata);
+    let (size, words) = match layout {
+        Layout::New => (index, [(len - index) as u32, body.id]),
+        Layout::Old => (len, [body.id, 0]),
+    };
+    put16(size as u16, 2, out);
+    put32(words[0], 4, out);
+    put32(words[1], 8, out);
+}
+
+fn put_extended(layout: Layout, body: &Body, out: &mut [u8]) {
     let content_at = 12 + body.further.len();
     put16(content_at as u16, 0, out);
-    put16(body.metadata.len() as u16, 2, out);
-    put32(body.id, 4, out);
-    put32(0, 8, out);
+    put_front(layout, body, out);
     put(body.further, 12, out);
     put(body.content, content_at, out);
     put(body.metadata, content_at + body.content.len(), out);
 }
 
-fn put_body(version: u16, body: &Body, out: &mut [u8]) {
+fn put_body(layout: Layout, version: u16, body: &Body, out: &mut [u8]) {
     if version == 2 {
-        put_extended(body, out);
+        put_extended(layout, body, out);
     } else {
         put(body.content, 0, out);
     }
 }
 
-fn put_message(message: &Message, size: usize, out: &mut [u8]) {
-    put_body(message.version, &message.body, &mut out[58..58 + size]);
+fn put_message(layout: Layout, message: &Message, size: usize, out: &mut [u8]) {
+    let room = &mut out[58..58 + size];
+    put_body(layout, message.version, &message.body, room);
     let header = HeaderFields {
         version: message.version,
         time_stamp: message.time_stamp,
@@ -259,8 +312,8 @@ fn put_message(message: &Message, size: usize, out: &mut [u8]) {
 }
 
 /// How many bytes were written, or the number of the refusal.
-pub fn write(message: &Message, out: &mut [u8]) -> Result<usize, u8> {
-    let fault = write_checks(message);
+pub fn write(layout: Layout, message: &Message, out: &mut [u8]) -> Result<usize, u8> {
+    let fault = write_checks(layout, message);
     if fault != 0 {
         return Err(fault);
     }
@@ -268,6 +321,6 @@ pub fn write(message: &Message, out: &mut [u8]) -> Result<usize, u8> {
     if out.len() < 58 + size {
         return Err(20);
     }
-    put_message(message, size, out);
+    put_message(layout, message, size, out);
     Ok(58 + size)
 }

@@ -2,8 +2,15 @@
 
 use super::fields::{be16, be32, first, is_text, rest};
 
-fn count(section: &[u8]) -> usize {
+pub fn count(section: &[u8]) -> usize {
     usize::from(be16(section, 0))
+}
+
+pub fn index_size(section: &[u8]) -> usize {
+    if section.is_empty() {
+        return 0;
+    }
+    2 + 8 * count(section)
 }
 
 fn headers_of(section: &[u8]) -> &[u8] {

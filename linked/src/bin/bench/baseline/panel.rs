@@ -2,6 +2,7 @@
 
 use super::fields::{is_text, sized};
 use super::message;
+use reference::message::body::Layout;
 
 #[derive(Clone, Copy)]
 pub struct Value {
@@ -29,6 +30,7 @@ struct Tile {
 #[derive(Clone, Copy)]
 struct Link {
     up: bool,
+    layout: Layout,
     clock: u64,
 }
 
@@ -164,7 +166,7 @@ fn is_allowed(type_text: &[u8], name: &[u8], hold_time: u64) -> bool {
 fn unread(number: u8) -> Judged {
     Judged {
         number,
-        read: message::read(b""),
+        read: message::read(Layout::New, b""),
     }
 }
 
@@ -185,7 +187,7 @@ fn judge(link: Link, clock: u64, bytes: &[u8]) -> Judged {
     if !link.up {
         return unread(14);
     }
-    let read = message::read(bytes);
+    let read = message::read(link.layout, bytes);
     Judged {
         number: bytes_fault(bytes, &read),
         read,
@@ -217,6 +219,7 @@ impl Panel {
             tiles: [free_tile(); 16],
             link: Link {
                 up: false,
+                layout: Layout::New,
                 clock: 0,
             },
         }
@@ -242,17 +245,27 @@ impl Panel {
         }
     }
 
-    pub fn set_link(self, up: bool, clock: u64) -> CallResult {
-        if clock < self.link.clock {
+    fn set_link(self, link: Link) -> CallResult {
+        if link.clock < self.link.clock {
             return refused_call(self, 15);
         }
         CallResult {
             panel: Panel {
                 tiles: self.tiles.map(relink),
-                link: Link { up, clock },
+                link,
             },
             number: 0,
         }
+    }
+
+    pub fn link_up(self, layout: Layout, clock: u64) -> CallResult {
+        let up = true;
+        self.set_link(Link { up, layout, clock })
+    }
+
+    pub fn link_down(self, clock: u64) -> CallResult {
+        let (up, layout) = (false, self.link.layout);
+        self.set_link(Link { up, layout, clock })
     }
 
     fn count_by_label(self, clock: u64, bytes: &[u8], read: message::Answer) -> CallResult {

@@ -2,6 +2,7 @@
 
 use super::fields::{be32, be64, be8, part, rest};
 use super::panel::{AddResult, CallResult, LookAnswer, LookResult, Panel, Value};
+use reference::message::body::Layout;
 
 pub enum CallAnswer {
     Accepted,
@@ -35,6 +36,13 @@ fn first_part(script: &[u8]) -> &[u8] {
 fn second_part(script: &[u8]) -> &[u8] {
     let at = 25 + be32(script, 17) as usize;
     part(script, at, be32(script, 21) as usize)
+}
+
+fn layout_of(number: u64) -> Layout {
+    match number {
+        1 => Layout::Old,
+        _ => Layout::New,
+    }
 }
 
 // ---- what the panel's calls give
@@ -94,8 +102,8 @@ fn perform(panel: Panel, script: &[u8]) -> Performed {
     let number = be64(script, 9);
     match be8(script, 0) {
         0 => after_add(panel.add(first_part(script), second_part(script), number)),
-        1 => after_call(panel.set_link(true, clock)),
-        2 => after_call(panel.set_link(false, clock)),
+        1 => after_call(panel.link_up(layout_of(number), clock)),
+        2 => after_call(panel.link_down(clock)),
         3 => after_call(panel.message(clock, first_part(script))),
         _ => after_look(panel.look(number as usize, clock)),
     }

@@ -1,26 +1,26 @@
--- `vector_messages::streams::print_steps` is safe and ends. The loop's invariant: the step does not lead past the stream's end. The
+-- `vector_messages::streams::print_steps_in` is safe and ends. The loop's invariant: the step does not lead past the stream's end. The
 -- measure is the number of bytes that are left.
 use Prim.Native.Nat.{_+_, _-_, _≤_}
 use native.Mathlib.Omega.{arith}
 use lib.ListN.{length, drop, length-drop}
 use borrow.Author.Needs.{needs}
 use Rattle.message.proofs.Laws.Stream.{step-within}
-use Rattle.vector_messages.proofs.streams.print_steps.Statement.{statement}
-use Rattle.vector_messages.proofs.streams.print_steps.Tie as tie
+use Rattle.vector_messages.proofs.streams.print_steps_in.Statement.{statement}
+use Rattle.vector_messages.proofs.streams.print_steps_in.Tie as tie
 
 abbrev Inv-loop : tie.InvT-loop
-Inv-loop stream at₀ step₀ at step = at + step ≤ length stream
+Inv-loop layout stream at₀ step₀ at step = at + step ≤ length stream
 
 abbrev μ-loop : tie.MeasureT-loop
-μ-loop stream at₀ step₀ at step = length stream - at
+μ-loop layout stream at₀ step₀ at step = length stream - at
 
 print-at-requires : tie.Need-print-at-requires Inv-loop μ-loop
 print-at-requires c κs = search needs
 
 loop-holds : tie.Need-loop-holds Inv-loop μ-loop
 loop-holds c =
-    let stream = c .before .before .args .stream .now in
-    omega (arith, c .print-at .ensures, step-within (drop 0 stream), length-drop 0 stream)
+    let a = c .before .before .args in
+    omega (arith, c .print-at .ensures, step-within (a .layout) (drop 0 (a .stream .now)), length-drop 0 (a .stream .now))
 
 add-at : tie.Need-add-at Inv-loop μ-loop
 add-at c = search needs
@@ -34,15 +34,15 @@ loop-less c = search needs
 loop-again : tie.Need-loop-again Inv-loop μ-loop
 loop-again c =
     let l = c .before .before .loop in
-    let stream = c .before .before .before .before .before .args .stream .now in
+    let a = c .before .before .before .before .before .args in
     let at = l .at + l .step in
-    omega (arith, c .print-at2 .ensures, step-within (drop at stream), length-drop at stream)
+    omega (arith, c .print-at2 .ensures, step-within (a .layout) (drop at (a .stream .now)), length-drop at (a .stream .now))
 
 returns : tie.Need-returns Inv-loop μ-loop
 returns c = search needs
 
-pub print-steps-spec : {M : Type 1} → statement M
-print-steps-spec =
+pub print-steps-in-spec : {M : Type 1} → statement M
+print-steps-in-spec =
     tie.close
     (tie.spec
     Inv-loop
