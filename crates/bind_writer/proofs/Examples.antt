@@ -1,24 +1,59 @@
 -- The examples, by computation.
-use mathlib.Core.Path.{refl}
+use Prim.Native.Nat.{ℕ, _<_}
+use mathlib.Core.Path.{_≡_, refl, ap}
+use mathlib.Core.Bool.{false}
+use mathlib.Core.List.{List, [], _∷_}
 use native.Mathlib.Omega.{arith}
-use Rattle.fields.specs.Bytes.{same, sized}
-use Rattle.fields.specs.Lists.{all, flat}
+use lib.ListN.{getD, replicate}
+use Rattle.fields.specs.Bytes.{Bytes, same, sized}
+use Rattle.fields.specs.Lists.{Each, all, flat}
 use Rattle.fields.specs.Numbers.{beVal, beBytes}
 use Rattle.fields.specs.Text.{isText, textOf, pastText, allZero, textOk, textClean, fieldOk, textBytes}
-use Rattle.fields.specs.Answer.{writtenOf, roomFault, outAfter}
+use Rattle.fields.specs.Received.{fieldBytes}
+use Rattle.fields.specs.Checks.{orElse}
+use Rattle.fields.specs.declared.Checked.{Checked}
+use Rattle.fields.specs.Answer.{checked, writtenOf, roomFault, outAfter}
+use Rattle.fields.proofs.Laws.Bytes.{bytes-cons}
+use Rattle.fields.proofs.Laws.Checks.{zero-else}
+use Rattle.fields.proofs.Laws.Received.{bytes-zeros}
 use Rattle.bundle.specs.Children.{padded, childHeader, childName, childData, nameTable, encodeChildren}
 use Rattle.bundle.specs.Layout.{typesOk, nameOk, namesOk, tableOk, padOk, blockOk, dataOk, layoutOk, layoutFault}
-use Rattle.content.specs.Kinds.{kindOf}
-use Rattle.content.specs.Check.{childrenFault, bindFault, contentFault}
+use Rattle.content.specs.Kinds.{kindOf, bindText}
+use Rattle.content.specs.Check.{childrenFault, bindFault, contentFault, contentChecked, nestedLevels}
+use Rattle.content.specs.Examples.{within, inner, outer, innerRest}
+use Rattle.content.proofs.Examples.{examples as content-examples}
+use Rattle.cleaning.specs.Clean.{cleanHeaders, cleanFront, cleanDatas, cleanBind, cleanBytes}
 use Rattle.bind_writer.specs.Lists.{children}
 use Rattle.bind_writer.specs.Writer.{listsOk, listsFault, writeFault, bindWritten, bindOut}
 use Rattle.bind_writer.specs.Examples.{Examples}
 
+below-256 : (s : List ℕ) → Each (λ b. b < 256) s → Bytes s
+below-256 [] h = bytes-zeros 0
+below-256 (b ∷ s) h = bytes-cons b s (h .0) (below-256 s (h .1))
+
+abbrev none : Checked
+none = record { number = 0; clean = false }
+
+-- `inner` has a TRANSFORM: that such children are accepted is in examples of content's
+abbrev Accepted : List ℕ → Type 0
+Accepted s = contentFault nestedLevels bindText s ≡ 0
+
+third : (l m : List Checked) → l ≡ m → getD l 2 none .number ≡ getD m 2 none .number
+third l m e = ap (λ (k : List Checked). getD k 2 none .number) e
+
+accepted : Accepted (inner innerRest) × Accepted (within (within (inner innerRest)))
+unfolding same sized all flat beVal beBytes isText textOf pastText allZero textOk textClean textBytes fieldBytes checked padded childHeader childName childData nameTable encodeChildren typesOk nameOk namesOk tableOk padOk blockOk dataOk layoutOk layoutFault kindOf childrenFault bindFault contentFault contentChecked
+accepted = (
+  zero-else (contentFault nestedLevels bindText (inner innerRest)) 0 (third _ _ (content-examples .marks)) .0,
+  zero-else (contentFault nestedLevels bindText (within (within (inner innerRest)))) 0 (third _ _ (content-examples .deep-marks)) .0,
+)
+
 pub examples : Examples
-unfolding same sized all flat beVal beBytes isText textOf pastText allZero textOk textClean fieldOk textBytes writtenOf roomFault outAfter padded childHeader childName childData nameTable encodeChildren typesOk nameOk namesOk tableOk padOk blockOk dataOk layoutOk layoutFault kindOf childrenFault bindFault contentFault children listsOk listsFault writeFault bindWritten bindOut
+unfolding same sized all flat beVal beBytes isText textOf pastText allZero textOk textClean fieldOk textBytes fieldBytes checked writtenOf roomFault outAfter padded childHeader childName childData nameTable encodeChildren typesOk nameOk namesOk tableOk padOk blockOk dataOk layoutOk layoutFault kindOf childrenFault bindFault contentFault contentChecked cleanHeaders cleanFront cleanDatas cleanBind cleanBytes children listsOk listsFault writeFault bindWritten bindOut
 examples =
     record {
       sizes-fit = (omega arith, (omega arith, tt));
+      are-bytes = (below-256 (0x61 ∷ 0x62 ∷ 0x63 ∷ []) (omega arith, (omega arith, (omega arith, tt))), (below-256 (0x71 ∷ []) (omega arith, tt), tt));
       written = refl;
       wrote = refl;
       untouched = refl;
@@ -26,9 +61,15 @@ examples =
       counts = refl;
       type-lengths = refl;
       bytes = refl;
+      ended = refl;
       table-lengths = refl;
       many-children = refl;
       first-fault = refl;
       children-faults = refl;
       lists-first = refl;
+      cleaned = ap (λ (n : ℕ). outAfter (orElse (orElse n 0) 0) (outer (replicate 8 0) (inner (replicate 3 0))) (replicate 101 5)) (accepted .0);
+      cleaned-count = ap (λ (n : ℕ). writtenOf (orElse (orElse n 0) 0) 100) (accepted .0);
+      cleaned-deep = ap (λ (n : ℕ). outAfter (orElse (orElse n 0) 0) (within (within (within (inner (replicate 3 0))))) (replicate 152 5)) (accepted .1);
+      as-given = refl;
+      not-text = refl;
     }

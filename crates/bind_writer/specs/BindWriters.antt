@@ -4,14 +4,16 @@ use mathlib.Core.Path.{_≡_}
 use mathlib.Core.Bool.{true}
 use mathlib.Core.List.{List, _++_}
 use lib.ListN.{length, take, drop}
+use Rattle.fields.specs.Bytes.{Bytes}
+use Rattle.fields.specs.Lists.{Each}
 use Rattle.fields.specs.Checks.{orElse}
 use Rattle.fields.specs.Answer.{writtenNumber, writtenCount, roomFault}
 use Rattle.fields.specs.declared.Written.the-variants.{Wrote}
 use Rattle.bundle.specs.Children.{Child, encodeChildren, WellBundle}
-use Rattle.content.specs.Tree.{Children, bind, encode, childList, WellFormed}
-use Rattle.content.specs.Check.{bindFault, deepest}
+use Rattle.content.specs.Tree.{Children, bind, encode, childList, WellFormed, cleaned}
+use Rattle.content.specs.Check.{bindFault, bindChecked, deepest}
 use Rattle.bind_writer.specs.Lists.{children, typesOf, namesOf, contentsOf, SameCount, SizesFit}
-use Rattle.bind_writer.specs.Writer.{listsOk, bindWritten, bindOut}
+use Rattle.bind_writer.specs.Writer.{listsOk, written, bindWritten, bindOut}
 
 -- the lists give children that can be written
 pub record Writable (ts ns ds : List (List ℕ)) : Type 0 where
@@ -25,28 +27,29 @@ countOf ts ns ds out = writtenCount (bindWritten ts ns ds (length out))
 abbrev pub bytesOf : (ts ns ds : List (List ℕ)) → List ℕ → List ℕ
 bytesOf ts ns ds out = take (countOf ts ns ds out) (bindOut ts ns ds out)
 
--- what it wrote is these children's encoding, the bytes beyond are as they were, the reader accepts what was written, and no other
--- children have these bytes
+-- what it wrote is the encoding of these children, their contents cleaned (rule 13.6), and the bytes beyond are as they were; the reader
+-- accepts what was written and marks it clean, and no other children have these bytes
 pub record ReadBack (ts ns ds : List (List ℕ)) (out : List ℕ) : Type 0 where
   pub count : countOf ts ns ds out ≡ length (encodeChildren (children ts ns ds))
-  pub bytes : bytesOf ts ns ds out ≡ encodeChildren (children ts ns ds)
+  pub bytes : bytesOf ts ns ds out ≡ encodeChildren (written ts ns ds)
   pub beyond : drop (countOf ts ns ds out) (bindOut ts ns ds out) ≡ drop (countOf ts ns ds out) out
   pub accepted : bindFault deepest (bytesOf ts ns ds out) ≡ 0
-  pub only : (cs : List Child) → WellBundle cs → encodeChildren cs ≡ bytesOf ts ns ds out → cs ≡ children ts ns ds
+  pub clean : bindChecked deepest (bytesOf ts ns ds out) .clean ≡ true
+  pub only : (cs : List Child) → WellBundle cs → encodeChildren cs ≡ bytesOf ts ns ds out → cs ≡ written ts ns ds
 
 pub record BindWriters : Type 0 where
   -- the check of the lists passes exactly where they can be written; else the answer is 10, whatever the contents and the room
   pub passed : (ts ns ds : List (List ℕ)) → SizesFit ds → listsOk ts ns ds ≡ true → Writable ts ns ds
   pub passes : (ts ns ds : List (List ℕ)) → Writable ts ns ds → listsOk ts ns ds ≡ true
   pub refused : (ts ns ds : List (List ℕ)) (room : ℕ) → SizesFit ds → (Writable ts ns ds → ⊥) → writtenNumber (bindWritten ts ns ds room) ≡ 10
-  -- of what can be written, the number is the reader's for the bytes that would be written, then 20
+  -- of what can be written, the number is the reader's for the children's bytes with their contents as given, then 20
   pub as-reader : (ts ns ds : List (List ℕ)) (room : ℕ) → Writable ts ns ds
       → writtenNumber (bindWritten ts ns ds room)
       ≡ orElse (bindFault deepest (encodeChildren (children ts ns ds))) (roomFault (length (encodeChildren (children ts ns ds))) room)
-  -- with any number but 0 the buffer is as it was; with 0 it is read back as what was given
+  -- with any number but 0 the buffer is as it was; with 0 it is read back
   pub untouched : (ts ns ds : List (List ℕ)) (out : List ℕ) → (writtenNumber (bindWritten ts ns ds (length out)) ≡ 0 → ⊥) → bindOut ts ns ds out ≡ out
-  pub read-back : (ts ns ds : List (List ℕ)) (out : List ℕ) → SizesFit ds → writtenNumber (bindWritten ts ns ds (length out)) ≡ 0 → ReadBack ts ns ds out
-  -- every well formed BIND is written, where there is room for it
+  pub read-back : (ts ns ds : List (List ℕ)) (out : List ℕ) → SizesFit ds → Each Bytes ds → writtenNumber (bindWritten ts ns ds (length out)) ≡ 0 → ReadBack ts ns ds out
+  -- every well formed BIND is written, cleaned, where there is room for it
   pub writes : (cs : Children) (out : List ℕ) → WellFormed (bind cs) deepest → length (encode (bind cs)) ≤ length out
       → (bindWritten (typesOf (childList cs)) (namesOf (childList cs)) (contentsOf (childList cs)) (length out) ≡ Wrote (length (encode (bind cs))))
-      × (bindOut (typesOf (childList cs)) (namesOf (childList cs)) (contentsOf (childList cs)) out ≡ encode (bind cs) ++ drop (length (encode (bind cs))) out)
+      × (bindOut (typesOf (childList cs)) (namesOf (childList cs)) (contentsOf (childList cs)) out ≡ encode (cleaned (bind cs)) ++ drop (length (encode (bind cs))) out)

@@ -1,8 +1,8 @@
--- The children of a BIND, given as three lists: their types, their names, their contents.
-use Prim.Native.Nat.{ℕ, _^_, _<_}
+-- The children of a BIND, given as three lists: their types, after which zeros are put, their names, their contents.
+use Prim.Native.Nat.{ℕ, _-_, _^_, _<_}
 use mathlib.Core.Path.{_≡_}
 use mathlib.Core.List.{List, [], _∷_, map}
-use lib.ListN.{length}
+use lib.ListN.{length, replicate}
 use Rattle.fields.specs.Lists.{Each}
 use Rattle.bundle.specs.Children.{Child}
 
@@ -11,7 +11,7 @@ unfoldable pub children : List (List ℕ) → List (List ℕ) → List (List ℕ
 children [] ns ds = []
 children (t ∷ ts) [] ds = []
 children (t ∷ ts) (n ∷ ns) [] = []
-children (t ∷ ts) (n ∷ ns) (d ∷ ds) = record { typeText = t; name = n; content = d } ∷ children ts ns ds
+children (t ∷ ts) (n ∷ ns) (d ∷ ds) = record { typeText = t; rest = replicate (12 - length t) 0; name = n; content = d } ∷ children ts ns ds
 
 -- the lists of given children
 abbrev pub typesOf : List Child → List (List ℕ)

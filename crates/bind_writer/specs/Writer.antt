@@ -1,17 +1,19 @@
 -- The writer of a BIND content: its checks in order (rules 5.4, 5.8 and 5.10), its answer, and the buffer that it leaves.
 use Prim.Native.Nat.{ℕ}
 use mathlib.Core.Bool.{Bool, cond, _&&_}
-use mathlib.Core.List.{List}
+use mathlib.Core.List.{List, _++_, map}
 use lib.Dec.{eqb, leb}
 use lib.ListN.{length}
 use Rattle.fields.specs.Lists.{all}
-use Rattle.fields.specs.Text.{isText}
+use Rattle.fields.specs.Numbers.{beBytes}
+use Rattle.fields.specs.Text.{isText, textBytes}
 use Rattle.fields.specs.Checks.{orElse}
 use Rattle.fields.specs.Answer.{writtenOf, roomFault, outAfter}
 use Rattle.fields.specs.declared.Written.{Written}
-use Rattle.bundle.specs.Children.{Child, nameTable, encodeChildren}
+use Rattle.bundle.specs.Children.{Child, padded, nameTable, encodeChildren}
 use Rattle.content.specs.Check.{contentFault, nestedLevels}
 use Rattle.content.specs.Contents.{firstFault}
+use Rattle.cleaning.specs.Clean.{cleanBytes}
 use Rattle.bind_writer.specs.Lists.{children}
 
 -- the type is a text of at most 12 bytes
@@ -55,9 +57,26 @@ unfoldable pub writeFault : List (List ℕ) → List (List ℕ) → List (List �
 writeFault ts ns ds room =
     orElse (listsFault ts ns ds) (orElse (firstFault childFault (children ts ns ds)) (spaceFault ts ns ds room))
 
+-- what is written (rule 13.6): a content cleaned, with its type's text, where a BIND is level 2; the children with such contents
+abbrev pub cleanContent : List ℕ → List ℕ → List ℕ
+cleanContent t d = cleanBytes nestedLevels t d
+
+abbrev pub cleanChild : Child → Child
+cleanChild c = record { typeText = c .typeText; rest = c .rest; name = c .name; content = cleanContent (c .typeText) (c .content) }
+
+abbrev pub written : List (List ℕ) → List (List ℕ) → List (List ℕ) → List Child
+written ts ns ds = map cleanChild (children ts ns ds)
+
+-- a header, and the data with their pad, as the writer puts them
+abbrev pub plainHeader : Child → List ℕ
+plainHeader c = textBytes 12 (c .typeText) ++ beBytes 8 (length (c .content))
+
+abbrev pub cleanData : Child → List ℕ
+cleanData c = padded (cleanContent (c .typeText) (c .content))
+
 -- the answer, and the buffer
 unfoldable pub bindWritten : List (List ℕ) → List (List ℕ) → List (List ℕ) → ℕ → Written
 bindWritten ts ns ds room = writtenOf (writeFault ts ns ds room) (length (encodeChildren (children ts ns ds)))
 
 unfoldable pub bindOut : List (List ℕ) → List (List ℕ) → List (List ℕ) → List ℕ → List ℕ
-bindOut ts ns ds out = outAfter (writeFault ts ns ds (length out)) (encodeChildren (children ts ns ds)) out
+bindOut ts ns ds out = outAfter (writeFault ts ns ds (length out)) (encodeChildren (written ts ns ds)) out

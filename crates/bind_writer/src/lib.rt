@@ -10,11 +10,11 @@ ghost use lib.Seq.{sets};
 ghost use Rattle.fields.specs.Lists.{all, flat};
 ghost use Rattle.fields.specs.Numbers.{beBytes};
 ghost use Rattle.fields.specs.Text.{textBytes};
-ghost use Rattle.bundle.specs.Children.{padded, childHeader, encodeChildren, ended};
+ghost use Rattle.bundle.specs.Children.{padded, encodeChildren, ended};
 ghost use Rattle.content.specs.Check.{contentFault, nestedLevels};
 ghost use Rattle.content.specs.Contents.{firstFault};
 ghost use Rattle.bind_writer.specs.Lists.{children, WithNames, WithContents};
-ghost use Rattle.bind_writer.specs.Writer.{typeOk, textsOk, listsOk, childFault, spaceFault, writeFault, bindWritten, bindOut};
+ghost use Rattle.bind_writer.specs.Writer.{typeOk, textsOk, listsOk, childFault, spaceFault, writeFault, cleanContent, written, plainHeader, cleanData, bindWritten, bindOut};
 
 // Is it a text that a CTYPE of 12 bytes holds?
 fn type_ok(type_text: &[u8]) -> bool
@@ -185,7 +185,7 @@ fn put_header(type_text: &[u8], size: usize, at: usize, out: &mut [u8])
 // Writes the headers, from behind N_CHILD on.
 fn put_headers(types: &[&[u8]], contents: &[&[u8]], out: &mut [u8])
     requires { ⌜ (length (now contents) ≡ length (now types)) × (2 + 20 * length (now types) ≤ length (now out)) ⌝ }
-    ensures { λ _. ⌜ WithContents (map now (now (types .entry))) (map now (now (contents .entry))) (λ cs. now (out .exit) ≡ sets (now (out .entry)) 2 (flat childHeader cs)) ⌝ }
+    ensures { λ _. ⌜ WithContents (map now (now (types .entry))) (map now (now (contents .entry))) (λ cs. now (out .exit) ≡ sets (now (out .entry)) 2 (flat plainHeader cs)) ⌝ }
 {
     let mut i = 0;
     while i < types.len() {
@@ -224,28 +224,29 @@ fn put_names(names: &[&[u8]], at: usize, out: &mut [u8]) -> usize
     to
 }
 
-// Writes a child's content and its pad, and gives the place behind them.
-fn put_content(content: &[u8], at: usize, out: &mut [u8]) -> usize
+// Writes a child's content, cleaned (rule 13.6), and its pad, and gives the place behind them. A BIND there has three levels left.
+fn put_content(type_text: &[u8], content: &[u8], at: usize, out: &mut [u8]) -> usize
     requires { ⌜ at + length (padded (now content)) ≤ length (now out) ⌝ }
     ensures place { λ r. ⌜ r ≡ at + length (padded (now (content .entry))) ⌝ }
-    ensures bytes { λ _. ⌜ now (out .exit) ≡ sets (now (out .entry)) at (padded (now (content .entry))) ⌝ }
+    ensures bytes { λ _. ⌜ now (out .exit) ≡ sets (now (out .entry)) at (padded (cleanContent (now («type_text» .entry)) (now (content .entry)))) ⌝ }
 {
     let n = content.len();
-    fields::store::put(content, at, out);
+    cleaning::put_clean(type_text, content, 3, at, out);
     put_pad(n, at + n, out);
     at + n + n % 2
 }
 
-fn put_contents(contents: &[&[u8]], at: usize, out: &mut [u8]) -> usize
-    requires { ⌜ at + length (flat padded (map now (now contents))) ≤ length (now out) ⌝ }
+fn put_contents(types: &[&[u8]], contents: &[&[u8]], at: usize, out: &mut [u8]) -> usize
+    requires { ⌜ (length (now contents) ≡ length (now types)) × (at + length (flat padded (map now (now contents))) ≤ length (now out)) ⌝ }
     ensures place { λ r. ⌜ r ≡ at + length (flat padded (map now (now (contents .entry)))) ⌝ }
-    ensures bytes { λ _. ⌜ now (out .exit) ≡ sets (now (out .entry)) at (flat padded (map now (now (contents .entry)))) ⌝ }
+    ensures bytes { λ _. ⌜ WithContents (map now (now (types .entry))) (map now (now (contents .entry))) (λ cs. now (out .exit) ≡ sets (now (out .entry)) at (flat cleanData cs)) ⌝ }
 {
     let mut to = at;
     let mut i = 0;
     while i < contents.len() {
+        let type_text = types[i];
         let content = contents[i];
-        to = put_content(content, to, out);
+        to = put_content(type_text, content, to, out);
         i += 1;
     }
     to
@@ -268,13 +269,13 @@ fn put_table(names: &[&[u8]], at: usize, out: &mut [u8]) -> usize
 fn put_children(types: &[&[u8]], names: &[&[u8]], contents: &[&[u8]], out: &mut [u8]) -> usize
     requires { ⌜ (listsOk (map now (now types)) (map now (now names)) (map now (now contents)) ≡ true) × (length (encodeChildren (children (map now (now types)) (map now (now names)) (map now (now contents)))) ≤ length (now out)) ⌝ }
     ensures count { λ r. ⌜ r ≡ length (encodeChildren (children (map now (now (types .entry))) (map now (now (names .entry))) (map now (now (contents .entry))))) ⌝ }
-    ensures bytes { λ _. ⌜ now (out .exit) ≡ sets (now (out .entry)) 0 (encodeChildren (children (map now (now (types .entry))) (map now (now (names .entry))) (map now (now (contents .entry))))) ⌝ }
+    ensures bytes { λ _. ⌜ now (out .exit) ≡ sets (now (out .entry)) 0 (encodeChildren (written (map now (now (types .entry))) (map now (now (names .entry))) (map now (now (contents .entry))))) ⌝ }
 {
     let count = types.len();
     fields::number::put16(count as u16, 0, out);
     put_headers(types, contents, out);
     let end = put_table(names, 2 + 20 * count, out);
-    put_contents(contents, end, out)
+    put_contents(types, contents, end, out)
 }
 
 // Writes the BIND content of the children with these types, names and contents: the first child has the first of each, and so on.

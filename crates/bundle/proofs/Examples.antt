@@ -4,12 +4,14 @@ use Rattle.fields.specs.Bytes.{sized}
 use Rattle.fields.specs.Lists.{all, flat}
 use Rattle.fields.specs.Numbers.{beVal, beBytes}
 use Rattle.fields.specs.Text.{isText, textOf, pastText, allZero, textOk, textClean, fieldOk, textBytes}
+use Rattle.fields.specs.Received.{fieldBytes}
+use Rattle.fields.specs.Answer.{checked}
 use Rattle.bundle.specs.Children.{padded, childHeader, childName, childData, nameTable, encodeChildren}
-use Rattle.bundle.specs.Layout.{typesOk, nameOk, namesOk, tableOk, padOk, blockOk, dataOk, layoutOk, layoutFault}
+use Rattle.bundle.specs.Layout.{typesOk, typesClean, nameOk, namesOk, tableOk, padOk, blockOk, dataOk, layoutOk, layoutFault, layoutChecked}
 use Rattle.bundle.specs.Examples.{Examples}
 
 pub examples : Examples
-unfolding sized all flat beVal beBytes isText textOf pastText allZero textOk textClean fieldOk textBytes padded childHeader childName childData nameTable encodeChildren typesOk nameOk namesOk tableOk padOk blockOk dataOk layoutOk layoutFault
+unfolding sized all flat beVal beBytes isText textOf pastText allZero textOk textClean fieldOk textBytes fieldBytes checked padded childHeader childName childData nameTable encodeChildren typesOk typesClean nameOk namesOk tableOk padOk blockOk dataOk layoutOk layoutFault layoutChecked
 examples =
     record {
       written = refl;
@@ -23,6 +25,10 @@ examples =
       counts = refl;
       types = refl;
       sizes = refl;
+      uncleared-types = refl;
+      marks = refl;
+      empty-type = refl;
+      uncleared-written = refl;
       wide-sizes = refl;
       tables = refl;
       even-tables = refl;

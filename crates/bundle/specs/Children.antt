@@ -1,15 +1,18 @@
 -- A bundle (rules 4.9 to 4.13): a list of children, and the BIND content that it is written as. Nothing here reads bytes.
 use Prim.Native.Nat.{ℕ, _%_, _^_, _≤_, _<_}
+use mathlib.Core.Path.{_≡_}
 use mathlib.Core.List.{List, [], _∷_, _++_}
 use lib.ListN.{length, replicate}
 use Rattle.fields.specs.Lists.{Each, flat}
 use Rattle.fields.specs.Numbers.{beBytes}
-use Rattle.fields.specs.Text.{Text, textBytes}
+use Rattle.fields.specs.Text.{Text}
+use Rattle.fields.specs.Received.{fieldBytes, zeroed, Fills}
 use Rattle.fields.specs.Layout.{join}
 
--- a child: the text of its type, its name, and its content as bytes
+-- a child: the text of its type and the rest of that field (rule 2.4), its name, and its content as bytes
 pub record Child : Type 0 where
   pub typeText : List ℕ
+  pub rest : List ℕ
   pub name : List ℕ
   pub content : List ℕ
 
@@ -19,7 +22,7 @@ padded x = x ++ replicate (length x % 2) 0
 
 -- CTYPE, a text field, and CSIZE
 unfoldable pub childHeader : Child → List ℕ
-childHeader c = textBytes 12 (c .typeText) ++ beBytes 8 (length (c .content))
+childHeader c = fieldBytes 12 (c .typeText) (c .rest) ++ beBytes 8 (length (c .content))
 
 -- a name of the table, ended by one 0
 abbrev pub ended : List ℕ → List ℕ
@@ -49,8 +52,7 @@ encodeChildren cs =
 
 -- type and name are texts, and the type and the size fit their fields. What the type asks of the content is not said here
 pub record WellChild (c : Child) : Type 0 where
-  pub type-text : Text (c .typeText)
-  pub type-fits : length (c .typeText) ≤ 12
+  pub type-fills : Fills 12 (c .typeText) (c .rest)
   pub name-text : Text (c .name)
   pub size-fits : length (c .content) < 256 ^ 8
 
@@ -59,3 +61,7 @@ pub record WellBundle (cs : List Child) : Type 0 where
   pub count-fits : length cs < 256 ^ 2
   pub table-fits : length (nameTable cs) < 256 ^ 2
   pub each : Each WellChild cs
+
+-- the rest of its CTYPE is zeros
+abbrev pub CleanChild : Child → Type 0
+CleanChild c = c .rest ≡ zeroed (c .rest)

@@ -8,6 +8,9 @@ use lib.ListN.{length, take, drop}
 use Rattle.fields.specs.Bytes.{part}
 use Rattle.fields.specs.Numbers.{beAt}
 use Rattle.fields.specs.Text.{textOf, pastText, allZero, textOk, fieldOk}
+use Rattle.fields.specs.declared.text.TextField.{TextField}
+use Rattle.fields.specs.declared.Checked.{Checked}
+use Rattle.fields.specs.Answer.{checked}
 
 -- N_CHILD
 abbrev pub count : List ℕ → ℕ
@@ -47,10 +50,19 @@ afterBlock n d = drop (n % 2) (drop n d)
 
 -- ---- the check of the layout (rules 4.9 to 4.12)
 
--- each CTYPE is a text field
+-- each CTYPE is a text field (rule 2.4)
 unfoldable pub typesOk : ℕ → List ℕ → Bool
 typesOk zero h = true
-typesOk (suc k) h = fieldOk (take 12 h) && typesOk k (drop 20 h)
+typesOk (suc k) h = textOk (take 12 h) && typesOk k (drop 20 h)
+
+-- each CTYPE is clean (rule 2.2)
+unfoldable pub typesClean : ℕ → List ℕ → Bool
+typesClean zero h = true
+typesClean (suc k) h = fieldOk (take 12 h) && typesClean k (drop 20 h)
+
+-- what the reader of the CTYPEs says
+abbrev pub typesRead : ℕ → List ℕ → TextField
+typesRead n h = record { ok = typesOk n h; clean = typesClean n h }
 
 -- a text, ended by a 0, stands in front
 unfoldable pub nameOk : List ℕ → Bool
@@ -88,3 +100,7 @@ layoutOk s =
 -- 10 for each fault of the layout
 unfoldable pub layoutFault : List ℕ → ℕ
 layoutFault s = cond (layoutOk s) 0 10
+
+-- the number and the mark
+unfoldable pub layoutChecked : List ℕ → Checked
+layoutChecked s = checked (layoutFault s) (typesClean (count s) (headers s))

@@ -1,23 +1,34 @@
 // The check of a BIND content's layout. Each walk goes down what is left of the headers, the name table or the data, so its time is
 // linear in the content; no sum of sizes is formed that could wrap.
+use fields::Checked;
+use fields::marked;
+use fields::text::TextField;
+use fields::text::read_field;
 ghost use mathlib.Core.Path.{_≡_};
-ghost use Rattle.bundle.specs.Layout.{typesOk, nameOk, namesOk, tableOk, padOk, blockOk, dataOk, layoutOk, layoutFault};
+ghost use Rattle.bundle.specs.Layout.{typesRead, nameOk, namesOk, tableOk, padOk, blockOk, dataOk, layoutChecked};
 
-// Are the CTYPEs of n headers text fields?
-fn types_ok(headers: &[u8], n: usize) -> bool
-    ensures { λ r. ⌜ r ≡ typesOk n (now (headers .entry)) ⌝ }
+// Reads the CTYPEs of n headers: is each a text field, and is each clean?
+fn read_types(headers: &[u8], n: usize) -> TextField
+    ensures { λ r. ⌜ r ≡ typesRead n (now (headers .entry)) ⌝ }
 {
     let mut h = headers;
     let mut left = n;
+    let mut clean = true;
     while 0 < left {
-        if !fields::text::is_text_field(fields::slice::first(h, 12)) {
-            return false;
+        let field = read_field(fields::slice::first(h, 12));
+        if !field.ok {
+            return TextField {
+                ok: false,
+                clean: false,
+            };
         }
+        let so_far = fields::both(clean, field.clean);
+        clean = so_far;
         let next = fields::slice::rest(h, 20);
         h = next;
         left -= 1;
     }
-    true
+    TextField { ok: true, clean }
 }
 
 // Does a name, ended by a 0, stand in front?
@@ -100,30 +111,28 @@ fn data_ok(headers: &[u8], blocks: &[u8], n: usize) -> bool
     d.len() == 0
 }
 
-fn layout_ok(content: &[u8]) -> bool
-    ensures { λ r. ⌜ r ≡ layoutOk (now (content .entry)) ⌝ }
+// 10 for each fault of the layout, or 0, and whether the CTYPEs are clean. A child's content is not looked at.
+pub fn check_layout(content: &[u8]) -> Checked
+    ensures { λ r. ⌜ r ≡ layoutChecked (now (content .entry)) ⌝ }
 {
     let n = crate::parts::count(content);
     let table_size = fields::number::be16(crate::parts::after_headers(content), 0) as usize;
     if content.len() < 4 + 20 * n + table_size {
-        return false;
+        return marked(10, false);
     }
-    if !types_ok(crate::parts::headers(content), n) {
-        return false;
+    let types = read_types(crate::parts::headers(content), n);
+    if !types.ok {
+        return marked(10, false);
     }
     if !table_ok(crate::parts::table_of(content), n) {
-        return false;
+        return marked(10, false);
     }
-    data_ok(
+    if !data_ok(
         crate::parts::headers(content),
         crate::parts::data_of(content),
         n,
-    )
-}
-
-// 10 for each fault of the layout, or 0. A child's content is not looked at.
-pub fn layout_number(content: &[u8]) -> u8
-    ensures { λ r. ⌜ r ≡ layoutFault (now (content .entry)) ⌝ }
-{
-    if layout_ok(content) { 0 } else { 10 }
+    ) {
+        return marked(10, false);
+    }
+    marked(0, types.clean)
 }

@@ -1,19 +1,43 @@
 -- The examples, by computation.
-use mathlib.Core.Path.{refl}
+use mathlib.Core.Path.{_≡_, refl, sym, ap, _∙_}
+use mathlib.Core.Bool.{false}
+use mathlib.Core.List.{List, [], _∷_}
+use lib.ListN.{getD, replicate}
 use Rattle.fields.specs.Bytes.{same, sized}
 use Rattle.fields.specs.Lists.{all, flat}
 use Rattle.fields.specs.Numbers.{beVal, beBytes}
 use Rattle.fields.specs.Text.{isText, textOf, pastText, allZero, textOk, textClean, fieldOk, textBytes}
+use Rattle.fields.specs.Received.{fieldBytes}
+use Rattle.fields.specs.Answer.{checked}
 use Rattle.bundle.specs.Children.{padded, childHeader, childName, childData, nameTable, encodeChildren}
-use Rattle.bundle.specs.Layout.{typesOk, nameOk, namesOk, tableOk, padOk, blockOk, dataOk, layoutOk, layoutFault}
-use Rattle.content.specs.Kinds.{kindOf}
-use Rattle.content.specs.Check.{childrenFault, bindFault}
-use Rattle.child.specs.Lookup.{namesFrom, dataFrom, indexIn, countOf, childNumber, placed, typeAt, nameAt}
+use Rattle.bundle.specs.Layout.{typesOk, typesClean, nameOk, namesOk, tableOk, padOk, blockOk, dataOk, layoutOk, layoutFault}
+use Rattle.fields.specs.declared.Checked.{Checked}
+use Rattle.content.specs.Kinds.{kindOf, bindText}
+use Rattle.content.specs.Check.{childrenFault, bindFault, childrenClean, bindClean, bindChecked, contentChecked, deepest}
+use Rattle.content.specs.Examples.{inner, outer, innerRest}
+use Rattle.content.proofs.Examples.{examples as content-examples}
+use Rattle.content.proofs.Laws.Kinds.{kind-bind}
+use Rattle.content.proofs.Laws.Walk.{bind-number, kind-bound}
+use Rattle.child.specs.declared.Place.{Place}
+use Rattle.child.specs.Lookup.{namesFrom, dataFrom, indexIn, countOf, markOf, childNumber, placed, namedPlace, partAt, typeAt, nameAt}
 use Rattle.child.specs.Either.{sourced, eitherPlace}
 use Rattle.child.specs.Examples.{Examples}
 
+-- `inner` has a TRANSFORM: that it is accepted is an example of content's
+outer-checked : contentChecked deepest bindText (outer (replicate 8 0) (inner innerRest)) ≡ record { number = 0; clean = false }
+outer-checked = ap (λ (l : List Checked). getD l 2 (record { number = 0; clean = false })) (content-examples .marks)
+
+named-in-outer : namedPlace (outer (replicate 8 0) (inner innerRest)) (0x4E ∷ []) ≡ record { number = 0; at = 26; len = 74; clean = false }
+unfolding same beVal textOf pastText dataFrom indexIn childNumber placed
+named-in-outer =
+    let s = outer (replicate 8 0) (inner innerRest) in
+    let e : bindChecked deepest s ≡ record { number = 0; clean = false } = sym (kind-bound deepest bindText s kind-bind) ∙ outer-checked in
+    let n : bindFault deepest s ≡ 0 = sym (bind-number deepest s) ∙ ap (λ (k : Checked). k .number) e in
+    let m : markOf s ≡ false = ap (λ (k : Checked). k .clean) e in
+    simp (n, m)
+
 pub examples : Examples
-unfolding same sized all flat beVal beBytes isText textOf pastText allZero textOk textClean fieldOk textBytes padded childHeader childName childData nameTable encodeChildren typesOk nameOk namesOk tableOk padOk blockOk dataOk layoutOk layoutFault kindOf childrenFault bindFault namesFrom dataFrom indexIn countOf childNumber placed typeAt nameAt sourced eitherPlace
+unfolding same sized all flat beVal beBytes isText textOf pastText allZero textOk textClean fieldOk textBytes fieldBytes checked padded childHeader childName childData nameTable encodeChildren typesOk typesClean nameOk namesOk tableOk padOk blockOk dataOk layoutOk layoutFault kindOf childrenFault bindFault childrenClean bindClean bindChecked namesFrom dataFrom indexIn countOf childNumber placed typeAt nameAt sourced eitherPlace
 examples =
     record {
       count = refl;
@@ -36,4 +60,13 @@ examples =
       default-fault = refl;
       both-faults = refl;
       both-faults-turned = refl;
+      marks = refl;
+      marks-count = refl;
+      received = named-in-outer;
+      as-received = ap (λ (p : Place). partAt p (outer (replicate 8 0) (inner innerRest))) named-in-outer;
+      type-texts = refl;
+      site-mark = refl;
+      default-mark = refl;
+      both-marks = refl;
+      same-name = refl;
     }

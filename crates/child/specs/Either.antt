@@ -12,7 +12,7 @@ use Rattle.child.specs.declared.Place.{Place}
 use Rattle.child.specs.declared.EitherPlace.{EitherPlace}
 use Rattle.child.specs.declared.Source.{Source}
 use Rattle.child.specs.declared.Source.the-variants.{Site, Default, Neither}
-use Rattle.child.specs.Lookup.{indexOf, placeIn}
+use Rattle.child.specs.Lookup.{indexOf, markOf, placeIn}
 
 -- the first fault of the two
 abbrev pub eitherFault : List ℕ → List ℕ → ℕ
@@ -21,14 +21,14 @@ eitherFault site default = orElse (bindFault deepest site) (bindFault deepest de
 -- a place in the bundle of this source: neither's, where refused
 unfoldable pub sourced : Source → Place → EitherPlace
 sourced source p =
-    record { number = p .number; source = cond (eqb (p .number) 0) source Neither; at = p .at; len = p .len }
+    record { number = p .number; source = cond (eqb (p .number) 0) source Neither; at = p .at; len = p .len; clean = p .clean }
 
 -- the site's, where it has the name; else the default's
 unfoldable pub eitherPlace : List ℕ → List ℕ → List ℕ → EitherPlace
 eitherPlace site default x =
     cond (ltb (indexOf site x) (count site))
-    (sourced Site (placeIn (eitherFault site default) site (indexOf site x)))
-    (sourced Default (placeIn (eitherFault site default) default (indexOf default x)))
+    (sourced Site (placeIn (eitherFault site default) (markOf site) site (indexOf site x)))
+    (sourced Default (placeIn (eitherFault site default) (markOf default) default (indexOf default x)))
 
 -- the bundle that a source means
 abbrev pub bundleOf : Source → List ℕ → List ℕ → List ℕ

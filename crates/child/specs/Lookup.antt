@@ -1,7 +1,7 @@
 -- Look-ups in a BIND content (rule 6.1), for any bytes: where a child stands, and the answers. The content is judged first; then comes 19
--- (rule 5.5). The part that a refusal returns has no bytes (rule 5.6).
+-- (rule 5.5). The part that a refusal returns has no bytes (rule 5.6). The mark is that of the whole content (rule 13.4).
 use Prim.Native.Nat.{ℕ, zero, suc, _-_, _*_}
-use mathlib.Core.Bool.{cond}
+use mathlib.Core.Bool.{Bool, false, cond}
 use mathlib.Core.List.{List, []}
 use lib.Dec.{eqb, ltb}
 use lib.ListN.{length, drop}
@@ -9,7 +9,7 @@ use Rattle.fields.specs.Bytes.{part, same}
 use Rattle.fields.specs.Text.{textOf, pastText}
 use Rattle.fields.specs.Checks.{orElse}
 use Rattle.bundle.specs.Layout.{count, headers, tableOf, dataOf, typeOf, sizeOf, afterBlock}
-use Rattle.content.specs.Check.{bindFault, deepest}
+use Rattle.content.specs.Check.{bindFault, bindChecked, deepest}
 use Rattle.child.specs.declared.ChildCount.{ChildCount}
 use Rattle.child.specs.declared.Place.{Place}
 
@@ -39,28 +39,32 @@ indexOf s x = indexIn (count s) (tableOf s) x
 
 -- ---- the answers
 
+-- the mark of a content; false where it is refused (rule 13.3)
+abbrev pub markOf : List ℕ → Bool
+markOf s = bindChecked deepest s .clean
+
 -- the count, 0 where refused
 unfoldable pub countOf : List ℕ → ChildCount
-countOf s = record { number = bindFault deepest s; count = cond (eqb (bindFault deepest s) 0) (count s) 0 }
+countOf s = record { number = bindFault deepest s; count = cond (eqb (bindFault deepest s) 0) (count s) 0; clean = markOf s }
 
 -- the number of a look-up of child j in a content with this fault
 unfoldable pub childNumber : ℕ → List ℕ → ℕ → ℕ
 childNumber fault s j = orElse fault (cond (ltb j (count s)) 0 19)
 
--- where the child's data stands in the content, and how long it is; both 0 where refused
-unfoldable pub placed : ℕ → List ℕ → ℕ → Place
-placed number s j =
+-- where the child's data stands in the content, and how long it is; both 0 where refused, and not clean
+unfoldable pub placed : ℕ → Bool → List ℕ → ℕ → Place
+placed number mark s j =
     cond (eqb number 0)
-    (record { number = 0; at = length s - length (dataFrom j (headers s) (dataOf s)); len = sizeOf (headersFrom j s) })
-    (record { number = number; at = 0; len = 0 })
+    (record { number = 0; at = length s - length (dataFrom j (headers s) (dataOf s)); len = sizeOf (headersFrom j s); clean = mark })
+    (record { number = number; at = 0; len = 0; clean = false })
 
--- a look-up of child j in a content with this fault
-abbrev pub placeIn : ℕ → List ℕ → ℕ → Place
-placeIn fault s j = placed (childNumber fault s j) s j
+-- a look-up of child j in a content with this fault and mark
+abbrev pub placeIn : ℕ → Bool → List ℕ → ℕ → Place
+placeIn fault mark s j = placed (childNumber fault s j) mark s j
 
 -- by number, and by name
 abbrev pub placeOf : List ℕ → ℕ → Place
-placeOf s j = placeIn (bindFault deepest s) s j
+placeOf s j = placeIn (bindFault deepest s) (markOf s) s j
 
 abbrev pub namedPlace : List ℕ → List ℕ → Place
 namedPlace s x = placeOf s (indexOf s x)

@@ -4,13 +4,16 @@
 mod walk;
 
 ghost use mathlib.Core.Path.{_≡_};
+ghost use Rattle.fields.specs.Checks.{orElse};
 ghost use Rattle.child.specs.Lookup.{countOf, childNumber, placeIn, placeOf, namedPlace, partAt, typeAt, nameAt};
-ghost use Rattle.child.specs.Either.{eitherFault, sourced, eitherPlace, eitherPart};
+ghost use Rattle.child.specs.Either.{sourced, eitherPlace, eitherPart};
 
-// The number (rule 5.1), and how many children there are: 0 where refused.
+// The number (rule 5.1), and how many children there are: 0 where refused. In each of these answers `clean` is the mark of the whole bundle
+// answered from (rule 13.4): false where refused.
 pub struct ChildCount {
     pub number: u8,
     pub count: usize,
+    pub clean: bool,
 }
 
 // The number (rule 5.1), and where a child's data stands in the content and how long it is: both 0 where refused.
@@ -18,6 +21,7 @@ pub struct Place {
     pub number: u8,
     pub at: usize,
     pub len: usize,
+    pub clean: bool,
 }
 
 // Which of two bundles a child is in: the site's, the default one, or neither where the look-up is refused.
@@ -33,12 +37,14 @@ pub struct EitherPlace {
     pub source: Source,
     pub at: usize,
     pub len: usize,
+    pub clean: bool,
 }
 
-// A child's data and which bundle it is a part of. Neither tells a refusal, whose part is empty.
+// A child's data, which bundle it is a part of, and that bundle's mark. Neither tells a refusal, whose part is empty.
 pub struct Found<'a> {
     pub part: &'a [u8],
     pub source: Source,
+    pub clean: bool,
 }
 
 // The fault of the content, or 19 where it has no child i.
@@ -54,9 +60,9 @@ fn child_number(fault: u8, content: &[u8], i: usize) -> u8
     19
 }
 
-// The look-up of child i in a content with this fault.
-fn place_in(fault: u8, content: &[u8], i: usize) -> Place
-    ensures { λ r. ⌜ r ≡ placeIn fault (now (content .entry)) i ⌝ }
+// The look-up of child i in a content with this fault and mark.
+fn place_in(fault: u8, clean: bool, content: &[u8], i: usize) -> Place
+    ensures { λ r. ⌜ r ≡ placeIn fault clean (now (content .entry)) i ⌝ }
 {
     let number = child_number(fault, content, i);
     if number != 0 {
@@ -64,12 +70,14 @@ fn place_in(fault: u8, content: &[u8], i: usize) -> Place
             number: number,
             at: 0,
             len: 0,
+            clean: false,
         };
     }
     Place {
         number: 0,
         at: content.len() - walk::data_from(content, i).len(),
         len: bundle::parts::size_of(walk::headers_from(content, i)),
+        clean,
     }
 }
 
@@ -77,16 +85,18 @@ fn place_in(fault: u8, content: &[u8], i: usize) -> Place
 pub fn child_count(content: &[u8]) -> ChildCount
     ensures { λ r. ⌜ r ≡ countOf (now (content .entry)) ⌝ }
 {
-    let number = content::bind_number(content);
-    if number != 0 {
+    let answer = content::bind_check(content);
+    if answer.number != 0 {
         return ChildCount {
-            number: number,
+            number: answer.number,
             count: 0,
+            clean: answer.clean,
         };
     }
     ChildCount {
         number: 0,
         count: bundle::parts::count(content),
+        clean: answer.clean,
     }
 }
 
@@ -94,15 +104,18 @@ pub fn child_count(content: &[u8]) -> ChildCount
 pub fn child_place(content: &[u8], i: usize) -> Place
     ensures { λ r. ⌜ r ≡ placeOf (now (content .entry)) i ⌝ }
 {
-    place_in(content::bind_number(content), content, i)
+    let answer = content::bind_check(content);
+    place_in(answer.number, answer.clean, content, i)
 }
 
 // Where the data of the first child of this name stands. The name may be any bytes; one that no child has is 19.
 pub fn named_place(content: &[u8], name: &[u8]) -> Place
     ensures { λ r. ⌜ r ≡ namedPlace (now (content .entry)) (now (name .entry)) ⌝ }
 {
+    let answer = content::bind_check(content);
     place_in(
-        content::bind_number(content),
+        answer.number,
+        answer.clean,
         content,
         walk::index_of(content, name),
     )
@@ -144,15 +157,14 @@ pub fn child_name(content: &[u8], i: usize) -> &[u8]
     fields::text::text_of(walk::names_from(bundle::parts::table_of(content), i))
 }
 
-// The first fault of the two bundles, the site's before the default's.
-fn either_fault(site: &[u8], default: &[u8]) -> u8
-    ensures { λ r. ⌜ r ≡ eitherFault (now (site .entry)) (now (default .entry)) ⌝ }
+// The first fault of two, the site's before the default's.
+fn first_number(site: u8, default: u8) -> u8
+    ensures { λ r. ⌜ r ≡ orElse site default ⌝ }
 {
-    let fault = content::bind_number(site);
-    if fault != 0 {
-        return fault;
+    if site != 0 {
+        return site;
     }
-    content::bind_number(default)
+    default
 }
 
 // A place in the bundle of this source; neither's, where refused.
@@ -165,6 +177,7 @@ fn sourced(source: Source, p: Place) -> EitherPlace
             source: Source::Neither,
             at: p.at,
             len: p.len,
+            clean: p.clean,
         };
     }
     EitherPlace {
@@ -172,6 +185,7 @@ fn sourced(source: Source, p: Place) -> EitherPlace
         source: source,
         at: p.at,
         len: p.len,
+        clean: p.clean,
     }
 }
 
@@ -179,14 +193,16 @@ fn sourced(source: Source, p: Place) -> EitherPlace
 pub fn either_place(site: &[u8], default: &[u8], name: &[u8]) -> EitherPlace
     ensures { λ r. ⌜ r ≡ eitherPlace (now (site .entry)) (now (default .entry)) (now (name .entry)) ⌝ }
 {
-    let fault = either_fault(site, default);
+    let a = content::bind_check(site);
+    let b = content::bind_check(default);
+    let fault = first_number(a.number, b.number);
     let i = walk::index_of(site, name);
     if i < bundle::parts::count(site) {
-        return sourced(Source::Site, place_in(fault, site, i));
+        return sourced(Source::Site, place_in(fault, a.clean, site, i));
     }
     sourced(
         Source::Default,
-        place_in(fault, default, walk::index_of(default, name)),
+        place_in(fault, b.clean, default, walk::index_of(default, name)),
     )
 }
 
@@ -201,6 +217,12 @@ fn source_of(p: EitherPlace) -> Source
     ensures { λ r. ⌜ r ≡ p .source ⌝ }
 {
     p.source
+}
+
+fn clean_of(p: EitherPlace) -> bool
+    ensures { λ r. ⌜ r ≡ p .clean ⌝ }
+{
+    p.clean
 }
 
 // Which bundle it found the name in, by itself.
@@ -235,13 +257,14 @@ pub fn either<'a>(site: &'a [u8], default: &'a [u8], name: &[u8]) -> &'a [u8]
     either_part(site, default, p)
 }
 
-// The data of the child found in one of the two, and in which, in one answer.
+// The data of the child found in one of the two, in which, and the mark, in one answer.
 pub fn find<'a>(site: &'a [u8], default: &'a [u8], name: &[u8]) -> Found<'a>
-    ensures { λ r. ⌜ (now (r .part) ≡ eitherPart (eitherPlace (now (site .entry)) (now (default .entry)) (now (name .entry))) (now (site .entry)) (now (default .entry))) × (r .source ≡ eitherPlace (now (site .entry)) (now (default .entry)) (now (name .entry)) .source) ⌝ }
+    ensures { λ r. ⌜ (now (r .part) ≡ eitherPart (eitherPlace (now (site .entry)) (now (default .entry)) (now (name .entry))) (now (site .entry)) (now (default .entry))) × (r .source ≡ eitherPlace (now (site .entry)) (now (default .entry)) (now (name .entry)) .source) × (r .clean ≡ eitherPlace (now (site .entry)) (now (default .entry)) (now (name .entry)) .clean) ⌝ }
 {
     let p = either_place(site, default, name);
     Found {
         part: either_part(site, default, p),
         source: source_of(p),
+        clean: clean_of(p),
     }
 }

@@ -2,3 +2,5 @@ pub mod Kinds
 pub mod Walk
 pub mod Faults
 pub mod Contents
+pub mod Cleaned
+pub mod Marks

@@ -1,7 +1,9 @@
 // Contents, judged by their type (rule 4.1): one dispatch, and BINDs to their innermost children (rule 4.14).
+use fields::Checked;
+use fields::marked;
 ghost use mathlib.Core.Path.{_≡_};
 ghost use Rattle.content.specs.Kinds.{kindOf};
-ghost use Rattle.content.specs.Check.{contentFault, bindFault, deepest, nestedLevels};
+ghost use Rattle.content.specs.Check.{contentFault, bindFault, contentChecked, bindChecked, deepest, nestedLevels};
 
 // The types that have a rule; the content of any other type is opaque (rule 4.1).
 enum Kind {
@@ -34,32 +36,33 @@ fn kind_of(type_text: &[u8]) -> Kind
 // The check of a content and the check of a BIND call each other (rule 9.1). The measure is twice the levels left and twice the bytes
 // left, and one more here, as this function hands on both as they are. A BIND hands a child one level less, and fewer bytes: its own four
 // bytes of counts are not part of any child.
-fn check_content(type_text: &[u8], content: &[u8], levels: u32) -> u8
-    ensures { λ r. ⌜ r ≡ contentFault levels (now («type_text» .entry)) (now (content .entry)) ⌝ }
+fn check_content(type_text: &[u8], content: &[u8], levels: u32) -> Checked
+    ensures { λ r. ⌜ r ≡ contentChecked levels (now («type_text» .entry)) (now (content .entry)) ⌝ }
 {
     match kind_of(type_text) {
-        Kind::Transform => pose::transform_number(content),
-        Kind::Position => pose::position_number(content),
-        Kind::Image => image::image_number(content),
+        Kind::Transform => marked(pose::transform_number(content), true),
+        Kind::Position => marked(pose::position_number(content), true),
+        Kind::Image => marked(image::image_number(content), true),
         Kind::Bind => check_bind(content, levels),
-        Kind::Other => 0,
+        Kind::Other => marked(0, true),
     }
 }
 
 // See check_content for the measure. The children are walked once, down what is left of the headers and of the data.
-fn check_bind(content: &[u8], levels: u32) -> u8
-    ensures { λ r. ⌜ r ≡ bindFault levels (now (content .entry)) ⌝ }
+fn check_bind(content: &[u8], levels: u32) -> Checked
+    ensures { λ r. ⌜ r ≡ bindChecked levels (now (content .entry)) ⌝ }
 {
     if levels == 0 {
-        return 11;
+        return marked(11, false);
     }
-    let fault = bundle::layout::layout_number(content);
-    if fault != 0 {
-        return fault;
+    let layout = bundle::layout::check_layout(content);
+    if layout.number != 0 {
+        return layout;
     }
     let mut h = bundle::parts::headers(content);
     let mut d = bundle::parts::data_of(content);
     let mut left = bundle::parts::count(content);
+    let mut clean = layout.clean;
     while 0 < left {
         let size = bundle::parts::size_of(h);
         let child = check_content(
@@ -67,35 +70,55 @@ fn check_bind(content: &[u8], levels: u32) -> u8
             fields::slice::first(d, size),
             levels - 1,
         );
-        if child != 0 {
+        if child.number != 0 {
             return child;
         }
+        let so_far = fields::both(clean, child.clean);
+        clean = so_far;
         let next_headers = fields::slice::rest(h, 20);
         h = next_headers;
         let next_data = bundle::parts::after_block(d, size);
         d = next_data;
         left -= 1;
     }
-    0
+    marked(0, clean)
 }
 
-// The number (rule 5.1) for a content of the type with this text; a BIND is level 1 (rule 4.15).
-pub fn content_number(type_text: &[u8], content: &[u8]) -> u8
-    ensures { λ r. ⌜ r ≡ contentFault deepest (now («type_text» .entry)) (now (content .entry)) ⌝ }
+// The number (rule 5.1) for a content of the type with this text, and whether every CTYPE in it is clean (rule 13.2); a BIND is level 1
+// (rule 4.15).
+pub fn content_check(type_text: &[u8], content: &[u8]) -> Checked
+    ensures { λ r. ⌜ r ≡ contentChecked deepest (now («type_text» .entry)) (now (content .entry)) ⌝ }
 {
     check_content(type_text, content, 4)
 }
 
-// The same for a child of such a BIND: a BIND there is level 2.
+// The same for a BIND content.
+pub fn bind_check(content: &[u8]) -> Checked
+    ensures { λ r. ⌜ r ≡ bindChecked deepest (now (content .entry)) ⌝ }
+{
+    check_bind(content, 4)
+}
+
+// The number alone.
+pub fn content_number(type_text: &[u8], content: &[u8]) -> u8
+    ensures { λ r. ⌜ r ≡ contentFault deepest (now («type_text» .entry)) (now (content .entry)) ⌝ }
+{
+    let answer = content_check(type_text, content);
+    answer.number
+}
+
+// The number of a child of such a BIND: a BIND there is level 2.
 pub fn nested_number(type_text: &[u8], content: &[u8]) -> u8
     ensures { λ r. ⌜ r ≡ contentFault nestedLevels (now («type_text» .entry)) (now (content .entry)) ⌝ }
 {
-    check_content(type_text, content, 3)
+    let answer = check_content(type_text, content, 3);
+    answer.number
 }
 
-// The number for a BIND content of level 1.
+// The number of a BIND content.
 pub fn bind_number(content: &[u8]) -> u8
     ensures { λ r. ⌜ r ≡ bindFault deepest (now (content .entry)) ⌝ }
 {
-    check_bind(content, 4)
+    let answer = bind_check(content);
+    answer.number
 }

@@ -15,6 +15,7 @@ unfolding roomFault all beVal beBytes isText textOf pastText allZero textOk text
 examples =
     record {
       answer-bytes = refl;
+      mark-numbers = refl;
       push-codes = refl;
       push-read = refl;
       pushed-bytes = refl;

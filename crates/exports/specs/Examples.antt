@@ -1,6 +1,7 @@
 -- Answers byte by byte, with all numbers different: they fix the order of the numbers and the code of each answer.
 use Prim.Native.Nat.{ℕ}
 use mathlib.Core.Path.{_≡_}
+use mathlib.Core.Bool.{true, false}
 use mathlib.Core.List.{List, [], _∷_, _++_, map}
 use lib.ListN.{replicate}
 use Rattle.fields.specs.Layout.{join}
@@ -12,14 +13,14 @@ use Rattle.feed.specs.declared.PushAnswer.the-variants as pushing
 use Rattle.feed.specs.Push.{openOf}
 use Rattle.replay.specs.declared.CallAnswer.{CallAnswer}
 use Rattle.replay.specs.declared.CallAnswer.the-variants.{Accepted, Added, Empty, Green, Grey, Refused, NoCall}
-use Rattle.exports.specs.Exports.{answerBytes, messageGiven, pushCode, pushRead, pushedBytes, fedTotal, fedBuffer, fedBytes, answerCode, carriedNumber, answeredBytes}
+use Rattle.exports.specs.Exports.{markNumber, answerBytes, messageGiven, pushCode, pushRead, pushedBytes, fedTotal, fedBuffer, fedBytes, answerCode, carriedNumber, answeredBytes}
 
 -- eight bytes, of which the last is this
 abbrev pub byte : ℕ → List ℕ
 byte b = 0 ∷ 0 ∷ 0 ∷ 0 ∷ 0 ∷ 0 ∷ 0 ∷ b ∷ []
 
-abbrev pub thirteen : Answer
-thirteen =
+abbrev pub fourteen : Answer
+fourteen =
     record {
       number = 1;
       step = 2;
@@ -34,6 +35,7 @@ thirteen =
       «content_len» = 11;
       «metadata_at» = 12;
       «metadata_len» = 13;
+      clean = true;
     }
 
 abbrev pub sevenAnswers : List CallAnswer
@@ -46,8 +48,8 @@ abbrev pub twoLengths : List ℕ
 twoLengths = 0 ∷ 0 ∷ 0 ∷ 57 ∷ 0 ∷ 0 ∷ 0 ∷ 9 ∷ []
 
 pub record Examples : Type 0 where
-  -- number, step, V, the lengths of the texts, time stamp, MSG_ID; place and length of the further bytes, of the content, of the metadata
-  pub answer-bytes : answerBytes thirteen
+  -- number, step, V, the lengths of the texts, time stamp, MSG_ID; place and length of the further bytes, of the content, of the metadata; the mark
+  pub answer-bytes : answerBytes fourteen
       ≡ join
       (byte 1
       ∷ byte 2
@@ -62,11 +64,13 @@ pub record Examples : Type 0 where
       ∷ byte 11
       ∷ byte 12
       ∷ byte 13
+      ∷ byte 1
       ∷ [])
+  pub mark-numbers : map markNumber (true ∷ false ∷ []) ≡ 1 ∷ 0 ∷ []
   -- then which answer, how many bytes were taken, how many are kept
-  pub push-codes : map pushCode (Nothing ∷ Read thirteen ∷ pushing.Refused 21 ∷ []) ≡ 0 ∷ 1 ∷ 2 ∷ []
-  pub push-read : map pushRead (Nothing ∷ Read thirteen ∷ pushing.Refused 21 ∷ []) ≡ refused 0 0 ∷ thirteen ∷ refused 21 0 ∷ []
-  pub pushed-bytes : pushedBytes (Read thirteen) 20 300 ≡ answerBytes thirteen ++ (byte 1 ++ (byte 20 ++ (0 ∷ 0 ∷ 0 ∷ 0 ∷ 0 ∷ 0 ∷ 1 ∷ 44 ∷ [])))
+  pub push-codes : map pushCode (Nothing ∷ Read fourteen ∷ pushing.Refused 21 ∷ []) ≡ 0 ∷ 1 ∷ 2 ∷ []
+  pub push-read : map pushRead (Nothing ∷ Read fourteen ∷ pushing.Refused 21 ∷ []) ≡ refused 0 0 ∷ fourteen ∷ refused 21 0 ∷ []
+  pub pushed-bytes : pushedBytes (Read fourteen) 20 300 ≡ answerBytes fourteen ++ (byte 1 ++ (byte 20 ++ (0 ∷ 0 ∷ 0 ∷ 0 ∷ 0 ∷ 0 ∷ 1 ∷ 44 ∷ [])))
   -- a buffer of 58 bytes; the stream is a message of zeros, of version 0 and without a body, and eight bytes more. No push, and two that do not
   -- end the message; then one that is offered 57 bytes and one that is offered nine
   pub fed-none : (l : Layout) → fedBytes (openOf l 58) [] zeroStream (replicate 58 9) ≡ pushedBytes Nothing 0 0
@@ -90,7 +94,9 @@ pub record Examples : Type 0 where
       ≡ record {
         version = 1;
         typeText = 4 ∷ [];
+        typeRest = replicate 11 0;
         deviceName = 5 ∷ [];
+        nameRest = replicate 19 0;
         timeStamp = 2;
         sections = record { id = 3; further = 6 ∷ []; content = 7 ∷ []; metadata = 8 ∷ [] };
       }

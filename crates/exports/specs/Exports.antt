@@ -1,5 +1,6 @@
 -- Answers as bytes, each number in eight; and a stream pushed in pieces of given lengths.
 use Prim.Native.Nat.{ℕ, zero, suc, _+_, _/_}
+use mathlib.Core.Bool.{Bool, true, false}
 use mathlib.Core.List.{List, [], _∷_, _++_}
 use lib.ListN.{length, replicate, drop}
 use Rattle.fields.specs.Bytes.{part}
@@ -32,9 +33,17 @@ fieldNumbers a = a .step ∷ a .version ∷ a .«type_len» ∷ a .«name_len» 
 abbrev pub partNumbers : Answer → List ℕ
 partNumbers a = a .«further_at» ∷ a .«further_len» ∷ a .«content_at» ∷ a .«content_len» ∷ a .«metadata_at» ∷ a .«metadata_len» ∷ []
 
--- the number, and then those
+-- a mark as a number
+abbrev pub markNumber : Bool → ℕ
+markNumber true = 1
+markNumber false = 0
+
+-- the number, then those, and the mark
+abbrev pub answerNumbers : Answer → List ℕ
+answerNumbers a = a .number ∷ (fieldNumbers a ++ (partNumbers a ++ (markNumber (a .clean) ∷ [])))
+
 abbrev pub answerBytes : Answer → List ℕ
-answerBytes a = join (numberFields (replicate 13 8) (a .number ∷ (fieldNumbers a ++ partNumbers a)))
+answerBytes a = join (numberFields (replicate 14 8) (answerNumbers a))
 
 -- the message that the writer is given
 abbrev pub messageGiven : ℕ → ℕ → ℕ → List ℕ → List ℕ → List ℕ → List ℕ → List ℕ → Parts
@@ -54,7 +63,7 @@ pushRead Nothing = message.refused 0 0
 pushRead (Read a) = a
 pushRead (pushing.Refused n) = message.refused n 0
 
--- the thirteen numbers, which answer, how many bytes the push took, and how many are kept
+-- the fourteen numbers, which answer, how many bytes the push took, and how many are kept
 abbrev pub pushedBytes : PushAnswer → ℕ → ℕ → List ℕ
 pushedBytes a taken kept = answerBytes (pushRead a) ++ join (numberFields (replicate 3 8) (pushCode a ∷ taken ∷ kept ∷ []))
 

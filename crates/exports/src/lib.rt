@@ -22,7 +22,7 @@ ghost use Rattle.message.specs.Check.{readOf};
 ghost use Rattle.message.specs.Writer.{messageWritten, messageOut};
 ghost use Rattle.feed.specs.Push.{openOf};
 ghost use Rattle.replay.specs.Replay.{answerAt, lookAfter};
-ghost use Rattle.exports.specs.Exports.{fieldNumbers, partNumbers, answerBytes, messageGiven, pushCode, pushRead, pushedBytes, started, fedBy, fedTotal, fedBuffer, fedBytes, answerCode, carriedNumber, answeredFields, answeredBytes};
+ghost use Rattle.exports.specs.Exports.{fieldNumbers, partNumbers, markNumber, answerBytes, messageGiven, pushCode, pushRead, pushedBytes, started, fedBy, fedTotal, fedBuffer, fedBytes, answerCode, carriedNumber, answeredFields, answeredBytes};
 
 // ---- the CRC and the contents
 
@@ -76,16 +76,24 @@ fn put_parts(answer: Answer, out: &mut [u8])
     fields::number::put64(answer.metadata_len as u64, 96, out);
 }
 
-// All thirteen numbers of an answer, in the order of `message::Answer`: 104 bytes.
+// A mark as a number: 1 where it is true.
+fn mark_number(mark: bool) -> u64
+    ensures { λ r. ⌜ r ≡ markNumber mark ⌝ }
+{
+    if mark { 1 } else { 0 }
+}
+
+// All fourteen numbers of an answer, in the order of `message::Answer`: 112 bytes.
 fn put_answer(answer: Answer, out: &mut [u8])
     ensures { λ _. ⌜ now (out .exit) ≡ sets (now (out .entry)) 0 (answerBytes answer) ⌝ }
 {
     fields::number::put64(answer.number as u64, 0, out);
     put_fields(answer, out);
     put_parts(answer, out);
+    fields::number::put64(mark_number(answer.clean), 104, out);
 }
 
-// The answer to the front of a stream: 104 bytes.
+// The answer to the front of a stream: 112 bytes.
 #[no_mangle]
 pub extern "C" fn kudireppa_read_fields(layout: u8, stream: &[u8], out: &mut [u8])
     ensures { λ _. ⌜ now (out .exit) ≡ sets (now (out .entry)) 0 (answerBytes (readOf (layoutOf layout) (now (stream .entry)))) ⌝ }
@@ -163,14 +171,14 @@ fn push_read(answer: PushAnswer) -> Answer
     }
 }
 
-// The thirteen numbers, which answer, how many bytes the push took, and how many the feed keeps: 128 bytes.
+// The fourteen numbers, which answer, how many bytes the push took, and how many the feed keeps: 136 bytes.
 fn put_pushed(answer: PushAnswer, taken: usize, kept: usize, out: &mut [u8])
     ensures { λ _. ⌜ now (out .exit) ≡ sets (now (out .entry)) 0 (pushedBytes answer taken kept) ⌝ }
 {
     put_answer(push_read(answer), out);
-    fields::number::put64(push_code(answer), 104, out);
-    fields::number::put64(taken as u64, 112, out);
-    fields::number::put64(kept as u64, 120, out);
+    fields::number::put64(push_code(answer), 112, out);
+    fields::number::put64(taken as u64, 120, out);
+    fields::number::put64(kept as u64, 128, out);
 }
 
 // Pushes the stream. Four bytes of `lengths` say how many bytes a push is offered, from the first one that was not taken yet.

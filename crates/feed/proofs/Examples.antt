@@ -16,6 +16,7 @@ use Rattle.message.specs.Check.{wholeFault, versionFault, bodyChecks, frontFaul
 use Rattle.message.specs.Message.{WellFormed, encode}
 use Rattle.message.specs.Samples.{armMessage, probeBytes, probeAnswer}
 use Rattle.message.proofs.Samples.{samples}
+use Rattle.message.proofs.ReceivedSamples.{received-samples}
 use Rattle.feed.specs.Push.{openOf, pushFault, passedOf, fittingOf, takenIn, pushOf, storedTo, bufferOf}
 use Rattle.feed.specs.Runs.{runOn}
 use Rattle.feed.specs.Examples.{Common, Twice, Examples}
@@ -52,6 +53,7 @@ common l =
             taken = refl;
             buffer = refl;
           };
+      not-clean = record { answers = λ i. received-samples .tracker l .read i ∷ []; feed = refl; taken = refl; buffer = refl };
       sent = (arm-sent l, (arm-sent l, tt));
       sent-taken = sym (ap (λ (s : List ℕ). s ++ (s ++ [])) (samples .arm l .bytes));
       stopped = refl;

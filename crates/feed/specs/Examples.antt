@@ -11,7 +11,8 @@ use Rattle.message.specs.declared.Layout.the-variants.{New, Old}
 use Rattle.message.specs.declared.Answer.{Answer}
 use Rattle.message.specs.Check.{refused}
 use Rattle.message.specs.Message.{WellFormed, encode}
-use Rattle.message.specs.Samples.{armMessage, armBytes, armAnswer, probeBytes, probeAnswer}
+use Rattle.message.specs.Samples.{armMessage, armBytes, armAnswer, answerOf1, probeBytes, probeAnswer}
+use Rattle.message.specs.ReceivedSamples.{unclean, trackerBytes}
 use Rattle.feed.specs.declared.Feed.{Feed}
 use Rattle.feed.specs.declared.OpenAnswer.the-variants as opening
 use Rattle.feed.specs.declared.PushAnswer.the-variants.{Read, Refused}
@@ -45,6 +46,10 @@ cutShort = take (length armBytes - 1) armBytes
 
 abbrev pub damaged : List ℕ
 damaged = cutShort ++ (0 ∷ [])
+
+-- a message whose TYPE and DEVICE_NAME are not clean
+abbrev pub uncleared : List ℕ
+uncleared = trackerBytes (0 ∷ 0xFF ∷ 0x80 ∷ []) (0 ∷ replicate 16 0x99)
 
 -- a buffer before the first push
 abbrev pub filled : ℕ → List ℕ
@@ -102,6 +107,9 @@ pub record Common (l : Layout) : Type 0 where
   -- a message that is refused, and one that is accepted and comes in three fragments
   pub accepts : Said (run l (filled 108) (damaged ∷ take 57 armBytes ∷ take 48 (drop 57 armBytes) ∷ (drop 105 armBytes ++ (7 ∷ [])) ∷ []))
       (refused 5 106 ∷ armAnswer ∷ []) (state l 108 0 0 0 false) (damaged ++ armBytes) (armBytes ++ filled 2)
+  -- one that is not clean, cut within the rest of TYPE and within that of DEVICE_NAME (rule 13.2); it is kept as it was received
+  pub not-clean : Said (run l (filled 108) (take 13 uncleared ∷ take 12 (drop 13 uncleared) ∷ drop 25 uncleared ∷ []))
+      (unclean (answerOf1 9 3 0 48) ∷ []) (state l 108 0 0 0 false) uncleared (uncleared ++ filled 2)
   -- two messages in one fragment after the other: what `Feeds` (sent) asks for is there
   pub sent : Each (λ m. WellFormed l m × (length (encode l m) ≤ 108)) (armMessage ∷ armMessage ∷ [])
   pub sent-taken : run l (filled 108) (armBytes ∷ armBytes ∷ []) .taken ≡ flat (encode l) (armMessage ∷ armMessage ∷ [])

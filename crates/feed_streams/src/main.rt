@@ -21,7 +21,7 @@ fn print_word(word: &[u8]) {
     io::write_all(STDOUT_FILENO, word);
 }
 
-// The thirteen numbers of an answer.
+// The fourteen numbers of an answer.
 fn print_read(answer: Answer) {
     print_word(b" read");
     vector_records::print_number(answer.number as u64);
@@ -37,6 +37,7 @@ fn print_read(answer: Answer) {
     vector_records::print_number(answer.content_len as u64);
     vector_records::print_number(answer.metadata_at as u64);
     vector_records::print_number(answer.metadata_len as u64);
+    vector_records::print_mark(answer.clean);
 }
 
 fn print_refused(number: u8) {

@@ -7,7 +7,8 @@ use Rattle.fields.specs.Bytes.{Bytes, same, sized}
 use Rattle.fields.specs.Lists.{all}
 use Rattle.fields.specs.Numbers.{beVal, beBytes}
 use Rattle.fields.specs.Text.{isText, textOf, pastText, allZero, textOk, textClean, fieldOk, textBytes}
-use Rattle.fields.specs.Answer.{writtenOf, roomFault, outAfter}
+use Rattle.fields.specs.Received.{fieldBytes}
+use Rattle.fields.specs.Answer.{checked, writtenOf, roomFault, outAfter}
 use Rattle.fields.specs.Examples.{Examples}
 
 below : Bytes (255 ∷ [])
@@ -15,7 +16,7 @@ below zero = omega arith
 below (suc i) = omega arith
 
 pub examples : Examples
-unfolding same sized all beVal beBytes isText textOf pastText allZero textOk textClean fieldOk textBytes writtenOf roomFault outAfter
+unfolding same sized all beVal beBytes isText textOf pastText allZero textOk textClean fieldOk textBytes fieldBytes checked writtenOf roomFault outAfter
 examples =
     record {
       byte = below;
@@ -36,6 +37,12 @@ examples =
       field-full = refl;
       field-high = refl;
       field-resumed = refl;
+      clean-fields = refl;
+      unclean-fields = refl;
+      no-fields = refl;
+      rests = refl;
+      rest-written = refl;
+      checks = refl;
       text-12 = refl;
       text-20 = refl;
       texts = refl;

@@ -1,11 +1,16 @@
--- The answer of a writer, and what it leaves in the buffer lent to it.
+-- The answer of a check, with its mark. The answer of a writer, and what it leaves in the buffer lent to it.
 use Prim.Native.Nat.{ℕ}
-use mathlib.Core.Bool.{cond}
+use mathlib.Core.Bool.{Bool, cond, _&&_}
 use mathlib.Core.List.{List, _++_}
 use lib.Dec.{eqb, leb}
 use lib.ListN.{length, drop}
+use Rattle.fields.specs.declared.Checked.{Checked}
 use Rattle.fields.specs.declared.Written.{Written}
 use Rattle.fields.specs.declared.Written.the-variants.{Wrote, Refused}
+
+-- the number of a check, and its mark where nothing is refused (rule 13.3)
+unfoldable pub checked : ℕ → Bool → Checked
+checked n mark = record { number = n; clean = eqb n 0 && mark }
 
 -- the number of each answer (rule 5.1)
 abbrev pub writtenNumber : Written → ℕ

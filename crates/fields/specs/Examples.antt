@@ -9,8 +9,9 @@ use Rattle.fields.specs.declared.Written.the-variants.{Wrote, Refused}
 use Rattle.fields.specs.Bytes.{Bytes, part, same}
 use Rattle.fields.specs.Numbers.{beVal, beBytes, beAt}
 use Rattle.fields.specs.Text.{isText, textOf, pastText, fieldOk, textBytes}
+use Rattle.fields.specs.Received.{restOf, fieldBytes, fieldRead}
 use Rattle.fields.specs.Checks.{orElse}
-use Rattle.fields.specs.Answer.{writtenNumber, writtenCount, writtenOf, roomFault, outAfter}
+use Rattle.fields.specs.Answer.{checked, writtenNumber, writtenCount, writtenOf, roomFault, outAfter}
 
 -- ten bytes, each with a value of its own
 abbrev pub ten : List ℕ
@@ -42,6 +43,19 @@ pub record Examples : Type 0 where
   pub field-full : fieldOk (1 ∷ 127 ∷ []) ≡ true
   pub field-high : fieldOk (1 ∷ 128 ∷ 0 ∷ []) ≡ false
   pub field-resumed : fieldOk (1 ∷ 0 ∷ 1 ∷ []) ≡ false
+  -- fields read (rule 2.4): "A" and zeros, "AB" alone, no byte; a byte behind the 0: 255, 128, a text, the last one alone, behind no text
+  pub clean-fields : map fieldRead ((0x41 ∷ 0 ∷ 0 ∷ []) ∷ (0x41 ∷ 0x42 ∷ []) ∷ [] ∷ []) ≡ replicate 3 (record { ok = true; clean = true })
+  pub unclean-fields : map fieldRead
+      ((0x41 ∷ 0 ∷ 255 ∷ []) ∷ (0x41 ∷ 0 ∷ 128 ∷ 0 ∷ []) ∷ (0x41 ∷ 0 ∷ 0x42 ∷ 0 ∷ []) ∷ (0x41 ∷ 0 ∷ 0 ∷ 0 ∷ 1 ∷ []) ∷ (0 ∷ 0x41 ∷ []) ∷ [])
+      ≡ replicate 5 (record { ok = true; clean = false })
+  -- 128 or 255 before the 0
+  pub no-fields : map fieldRead ((0x41 ∷ 128 ∷ 0 ∷ []) ∷ (255 ∷ 0 ∷ 0 ∷ []) ∷ (0x41 ∷ 128 ∷ []) ∷ []) ≡ replicate 3 (record { ok = false; clean = false })
+  -- the rests begin with the first 0
+  pub rests : map restOf ((0x41 ∷ 0 ∷ 0x42 ∷ 0 ∷ []) ∷ (0 ∷ 0x41 ∷ []) ∷ (0x41 ∷ 0x42 ∷ []) ∷ []) ≡ (0 ∷ 0x42 ∷ 0 ∷ []) ∷ (0 ∷ 0x41 ∷ []) ∷ [] ∷ []
+  pub rest-written : fieldBytes 5 (0x41 ∷ 0x72 ∷ []) (0 ∷ 255 ∷ 1 ∷ []) ≡ 0x41 ∷ 0x72 ∷ 0 ∷ 255 ∷ 1 ∷ []
+  -- a refusal's mark is false
+  pub checks : checked 0 true ∷ checked 0 false ∷ checked 2 true ∷ []
+      ≡ record { number = 0; clean = true } ∷ record { number = 0; clean = false } ∷ record { number = 2; clean = false } ∷ []
   -- TYPE and DEVICE_NAME: "Arm" in 12 bytes and in 20
   pub text-12 : textBytes 12 (0x41 ∷ 0x72 ∷ 0x6d ∷ []) ≡ 0x41 ∷ 0x72 ∷ 0x6d ∷ 0 ∷ 0 ∷ 0 ∷ 0 ∷ 0 ∷ 0 ∷ 0 ∷ 0 ∷ 0 ∷ []
   pub text-20 : textBytes 20 (0x41 ∷ 0x72 ∷ 0x6d ∷ [])

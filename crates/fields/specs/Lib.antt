@@ -4,6 +4,7 @@ pub mod Bytes
 pub mod Lists
 pub mod Numbers
 pub mod Text
+pub mod Received
 pub mod Layout
 pub mod Checks
 pub mod Answer

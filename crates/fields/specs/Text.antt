@@ -1,4 +1,5 @@
--- Texts, and the fields that hold them (rule 2.2). A text has no byte 0 and none above 127; behind it, its field has only zeros.
+-- Texts, and the fields that hold them. A text has no byte 0 and none above 127. Behind it a field has only zeros (rule 2.2), or a 0 and then any
+-- bytes (rule 2.4).
 use Prim.Native.Nat.{ℕ, _<_, _≤_}
 use mathlib.Core.Path.{_≡_}
 use mathlib.Core.Bool.{Bool, true, cond, _&&_}
@@ -37,15 +38,15 @@ zeroByte b = leb b 0
 unfoldable pub allZero : List ℕ → Bool
 allZero s = all zeroByte s
 
--- the first half of a text field's rule: what stands before the first 0 is a text
+-- rule 2.4: what stands before the first 0 is a text
 unfoldable pub textOk : List ℕ → Bool
 textOk f = isText (textOf f)
 
--- the second half: what stands after it is zeros
+-- what stands behind that 0 is zeros
 unfoldable pub textClean : List ℕ → Bool
 textClean f = allZero (pastText f)
 
--- is it a text field?
+-- rule 2.2: both
 unfoldable pub fieldOk : List ℕ → Bool
 fieldOk f = textOk f && textClean f
 

@@ -6,8 +6,39 @@ pub mod slice;
 pub mod store;
 pub mod text;
 
+ghost use mathlib.Core.Bool.{_&&_};
 ghost use mathlib.Core.Path.{_≡_};
-ghost use Rattle.fields.specs.Answer.{writtenNumber, writtenCount, roomFault};
+ghost use Rattle.fields.specs.Answer.{checked, writtenNumber, writtenCount, roomFault};
+
+// The answer of a check: the number (rule 5.1), 0 for none, and the mark (rule 13.2), which says whether all texts checked are clean. A
+// refusal's mark is false (rule 13.3).
+pub struct Checked {
+    pub number: u8,
+    pub clean: bool,
+}
+
+// The answer with this number and this mark.
+pub fn marked(number: u8, mark: bool) -> Checked
+    ensures { λ r. ⌜ r ≡ checked number mark ⌝ }
+{
+    if number == 0 {
+        return Checked {
+            number,
+            clean: mark,
+        };
+    }
+    Checked {
+        number,
+        clean: false,
+    }
+}
+
+// Are both true?
+pub fn both(a: bool, b: bool) -> bool
+    ensures { λ r. ⌜ r ≡ (a && b) ⌝ }
+{
+    if a { b } else { false }
+}
 
 // The answer of a writer: how many bytes it wrote, or the number of the refusal (rule 5.1).
 pub enum Written {

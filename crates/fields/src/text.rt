@@ -1,8 +1,16 @@
-// Texts and text fields (rule 2.2).
+// Texts and text fields (rules 2.2 and 2.4).
 ghost use mathlib.Core.Path.{_≡_};
 ghost use lib.ListN.{length};
 ghost use lib.Seq.{sets};
-ghost use Rattle.fields.specs.Text.{isText, textOf, pastText, allZero, fieldOk, textBytes};
+ghost use Rattle.fields.specs.Text.{isText, textOf, pastText, allZero, textBytes};
+ghost use Rattle.fields.specs.Received.{fieldRead};
+
+// What a text field is: do bytes 1 to 127 stand before its first 0 (rule 2.4), and are there only zeros from that 0 on, so that it also keeps
+// rule 2.2? `clean` is false where `ok` is.
+pub struct TextField {
+    pub ok: bool,
+    pub clean: bool,
+}
 
 // Is it a text: bytes 1 to 127 and nothing else? Names and keys are texts.
 pub fn is_text(t: &[u8]) -> bool
@@ -65,16 +73,22 @@ pub fn all_zero(s: &[u8]) -> bool
     true
 }
 
-// Is the whole slice a text field?
-pub fn is_text_field(f: &[u8]) -> bool
-    ensures { λ r. ⌜ r ≡ fieldOk (now (f .entry)) ⌝ }
+// Reads the whole slice as a text field.
+pub fn read_field(f: &[u8]) -> TextField
+    ensures { λ r. ⌜ r ≡ fieldRead (now (f .entry)) ⌝ }
 {
     let text = text_of(f);
     if !is_text(text) {
-        return false;
+        return TextField {
+            ok: false,
+            clean: false,
+        };
     }
     // Not `past_text`, which would search for the first 0 again.
-    all_zero(crate::slice::rest(f, text.len() + 1))
+    TextField {
+        ok: true,
+        clean: all_zero(crate::slice::rest(f, text.len() + 1)),
+    }
 }
 
 // Writes a text into a field of 12 bytes at a place: the text, then zeros. What does not fit the field is left out.

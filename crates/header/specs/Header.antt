@@ -1,15 +1,20 @@
--- The header of a message (rule 3.1), and the 58 bytes that it is written as. Nothing here reads bytes.
+-- The header of a message (rule 3.1) as it is received, and its 58 bytes. Beside each of its two texts it has the rest of that text's field
+-- (rule 2.4). Nothing here reads bytes.
 use Prim.Native.Nat.{ℕ, _^_, _<_, _≤_}
+use mathlib.Core.Path.{_≡_}
 use mathlib.Core.List.{List, [], _∷_}
 use lib.ListN.{length}
 use Rattle.fields.specs.Numbers.{beBytes}
-use Rattle.fields.specs.Text.{Text, textBytes}
+use Rattle.fields.specs.Text.{Text}
+use Rattle.fields.specs.Received.{fieldBytes, zeroed, Fills}
 use Rattle.fields.specs.Layout.{join}
 
 pub record Header : Type 0 where
   pub version : ℕ
   pub typeText : List ℕ
+  pub typeRest : List ℕ
   pub deviceName : List ℕ
+  pub nameRest : List ℕ
   pub timeStamp : ℕ
   pub bodySize : ℕ
   pub crc : ℕ
@@ -21,8 +26,8 @@ headerWidths = 2 ∷ 12 ∷ 20 ∷ 8 ∷ 8 ∷ 8 ∷ []
 abbrev pub headerFields : Header → List (List ℕ)
 headerFields h =
     beBytes 2 (h .version)
-    ∷ textBytes 12 (h .typeText)
-    ∷ textBytes 20 (h .deviceName)
+    ∷ fieldBytes 12 (h .typeText) (h .typeRest)
+    ∷ fieldBytes 20 (h .deviceName) (h .nameRest)
     ∷ beBytes 8 (h .timeStamp)
     ∷ beBytes 8 (h .bodySize)
     ∷ beBytes 8 (h .crc)
@@ -31,7 +36,7 @@ headerFields h =
 unfoldable pub encodeHeader : Header → List ℕ
 encodeHeader h = join (headerFields h)
 
--- TYPE and DEVICE_NAME are texts that fit their fields
+-- what a writer takes: TYPE and DEVICE_NAME are texts that fit their fields
 pub record WellTexts (t n : List ℕ) : Type 0 where
   pub type-text : Text t
   pub type-fits : length t ≤ 12
@@ -41,7 +46,8 @@ pub record WellTexts (t n : List ℕ) : Type 0 where
 -- every field fits its width
 pub record HeaderFits (h : Header) : Type 0 where
   pub version-fits : h .version < 256 ^ 2
-  pub texts : WellTexts (h .typeText) (h .deviceName)
+  pub type-fills : Fills 12 (h .typeText) (h .typeRest)
+  pub name-fills : Fills 20 (h .deviceName) (h .nameRest)
   pub stamp-fits : h .timeStamp < 256 ^ 8
   pub size-fits : h .bodySize < 256 ^ 8
   pub crc-fits : h .crc < 256 ^ 8
@@ -54,3 +60,23 @@ limit = 16777216
 pub record WellHeader (h : Header) : Type 0 where
   pub fits : HeaderFits h
   pub size-limit : h .bodySize ≤ limit
+
+-- ---- rests
+
+-- the header with both rests zeroed
+abbrev pub cleanedHeader : Header → Header
+cleanedHeader h =
+    record {
+      version = h .version;
+      typeText = h .typeText;
+      typeRest = zeroed (h .typeRest);
+      deviceName = h .deviceName;
+      nameRest = zeroed (h .nameRest);
+      timeStamp = h .timeStamp;
+      bodySize = h .bodySize;
+      crc = h .crc;
+    }
+
+-- both rests are zeros
+abbrev pub CleanHeader : Header → Type 0
+CleanHeader h = (h .typeRest ≡ zeroed (h .typeRest)) × (h .nameRest ≡ zeroed (h .nameRest))

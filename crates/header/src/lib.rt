@@ -1,7 +1,10 @@
 // The header of a message (rule 3.1): 58 bytes, judged, read and written by themselves; and the two parts of a time stamp.
 pub mod time_stamp;
 
+use fields::Checked;
 use fields::Written;
+use fields::both;
+use fields::marked;
 use fields::number::be16;
 use fields::number::be64;
 use fields::number::put16;
@@ -9,19 +12,19 @@ use fields::number::put64;
 use fields::room_fault;
 use fields::slice::part;
 use fields::text::is_text;
-use fields::text::is_text_field;
 use fields::text::put_text12;
 use fields::text::put_text20;
+use fields::text::read_field;
 use fields::text::text_len;
 use fields::text::text_of;
 ghost use mathlib.Core.Path.{_≡_};
 ghost use lib.ListN.{length};
 ghost use Rattle.fields.specs.Layout.{stores};
-ghost use Rattle.header.specs.Header.{headerWidths, headerFields};
-ghost use Rattle.header.specs.Check.{headerOf, textsFault, limitFault, headerFault, handed, refused, headerRead, namesFault, given, writeFault, headerWritten, headerOut};
+ghost use Rattle.header.specs.Header.{headerWidths};
+ghost use Rattle.header.specs.Check.{headerOf, textsChecked, limitFault, headerChecked, handedWith, refused, headerRead, namesFault, given, givenFields, writeFault, headerWritten, headerOut};
 
-// What the reader of a header hands out: the number (rule 5.1), 0 where accepted; the fields, with the lengths of the two texts. Where
-// refused, all but the number is 0.
+// What the reader of a header hands out: the number (rule 5.1), 0 where accepted; the fields, with the lengths of the two texts; whether
+// both texts are clean (rule 13.2). Where refused, all but the number is 0, and `clean` is false.
 pub struct HeaderRead {
     pub number: u8,
     pub version: u16,
@@ -30,6 +33,7 @@ pub struct HeaderRead {
     pub time_stamp: u64,
     pub body_size: usize,
     pub crc: u64,
+    pub clean: bool,
 }
 
 // The fields of a header besides its two texts.
@@ -61,17 +65,19 @@ fn size_at(stream: &[u8]) -> usize
     be64(stream, 42) as usize
 }
 
-// 2 where TYPE or DEVICE_NAME breaks rule 2.2.
-fn texts_fault(stream: &[u8]) -> u8
-    ensures { λ r. ⌜ r ≡ textsFault (now (stream .entry)) ⌝ }
+// 2 where TYPE or DEVICE_NAME breaks rule 2.4; and whether both are clean.
+fn check_texts(stream: &[u8]) -> Checked
+    ensures { λ r. ⌜ r ≡ textsChecked (now (stream .entry)) ⌝ }
 {
-    if !is_text_field(part(stream, 2, 12)) {
-        return 2;
+    let type_field = read_field(part(stream, 2, 12));
+    if !type_field.ok {
+        return marked(2, false);
     }
-    if !is_text_field(part(stream, 14, 20)) {
-        return 2;
+    let name_field = read_field(part(stream, 14, 20));
+    if !name_field.ok {
+        return marked(2, false);
     }
-    0
+    marked(0, both(type_field.clean, name_field.clean))
 }
 
 // 3 for a BODY_SIZE that breaks rule 3.3.
@@ -84,18 +90,18 @@ fn limit_fault(size: usize) -> u8
     3
 }
 
-// Checks 1, 2 and 3.
-fn header_fault(stream: &[u8]) -> u8
-    ensures { λ r. ⌜ r ≡ headerFault (now (stream .entry)) ⌝ }
+// Checks 1, 2 and 3, and the mark.
+fn check_header(stream: &[u8]) -> Checked
+    ensures { λ r. ⌜ r ≡ headerChecked (now (stream .entry)) ⌝ }
 {
     if stream.len() < 58 {
-        return 1;
+        return marked(1, false);
     }
-    let fault = texts_fault(stream);
-    if fault != 0 {
-        return fault;
+    let texts = check_texts(stream);
+    if texts.number != 0 {
+        return texts;
     }
-    limit_fault(size_at(stream))
+    marked(limit_fault(size_at(stream)), texts.clean)
 }
 
 // The answer of a refusal: its number, and all else 0.
@@ -110,12 +116,13 @@ fn refused(number: u8) -> HeaderRead
         time_stamp: 0,
         body_size: 0,
         crc: 0,
+        clean: false,
     }
 }
 
-// The answer for an accepted header.
-fn handed(stream: &[u8]) -> HeaderRead
-    ensures { λ r. ⌜ r ≡ handed (headerOf (now (stream .entry))) ⌝ }
+// The answer for an accepted header with this mark.
+fn handed(stream: &[u8], clean: bool) -> HeaderRead
+    ensures { λ r. ⌜ r ≡ handedWith (headerOf (now (stream .entry))) clean ⌝ }
 {
     HeaderRead {
         number: 0,
@@ -125,6 +132,7 @@ fn handed(stream: &[u8]) -> HeaderRead
         time_stamp: be64(stream, 34),
         body_size: size_at(stream),
         crc: be64(stream, 50),
+        clean,
     }
 }
 
@@ -132,11 +140,11 @@ fn handed(stream: &[u8]) -> HeaderRead
 pub fn read_header(stream: &[u8]) -> HeaderRead
     ensures { λ r. ⌜ r ≡ headerRead (now (stream .entry)) ⌝ }
 {
-    let fault = header_fault(stream);
-    if fault != 0 {
-        return refused(fault);
+    let answer = check_header(stream);
+    if answer.number != 0 {
+        return refused(answer.number);
     }
-    handed(stream)
+    handed(stream, answer.clean)
 }
 
 // 2 where these are no names for a writer (rule 5.8): texts of at most 12 bytes for TYPE and 20 for DEVICE_NAME.
@@ -178,7 +186,7 @@ fn put_header(header: HeaderFields, type_text: &[u8], device_name: &[u8], out: &
     ensures { λ _.
         ⌜
         now (out .exit)
-        ≡ stores (now (out .entry)) 0 (headerFields (given header (now («type_text» .entry)) (now («device_name» .entry)))) headerWidths
+        ≡ stores (now (out .entry)) 0 (givenFields header (now («type_text» .entry)) (now («device_name» .entry))) headerWidths
         ⌝ }
 {
     put16(header.version, 0, out);

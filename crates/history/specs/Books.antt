@@ -1,15 +1,15 @@
 -- Examples of the book, with any reader of demand 2: what bytes are read as; the number of each call on books that are written out, and the
 -- book after it; which messages count, and their values. They fix the numbers, the limits and the order of the checks (rules 7.3 to 7.9).
-use Prim.Native.Nat.{ℕ, zero, suc}
+use Prim.Native.Nat.{ℕ, zero, suc, _-_}
 use mathlib.Core.Path.{_≡_}
 use mathlib.Core.Bool.{true, false}
 use mathlib.Core.List.{List, [], _∷_, _++_, map}
 use mathlib.Core.Option.{Option, none, some}
-use lib.ListN.{take, replicate}
+use lib.ListN.{length, take, replicate}
 use Rattle.fields.specs.Bytes.{Bytes}
 use Rattle.fields.specs.Lists.{Each}
 use Rattle.content.specs.Kinds.{transformText, positionText, imageText}
-use Rattle.content.specs.Tree.{Content, position, other}
+use Rattle.content.specs.Tree.{Content, position, other, typeText}
 use Rattle.message.specs.declared.Layout.{Layout}
 use Rattle.message.specs.declared.Layout.the-variants.{New, Old}
 use Rattle.message.specs.Message.{Message}
@@ -62,7 +62,18 @@ armBytesCalls = add transformText armText 500 ∷ linkUp New 1000 ∷ message 12
 
 -- from "Arm" in V 1, with this content; with a POSITION of these words; with a content of this type that has no bytes
 abbrev pub armWith : Content → Message
-armWith x = record { version = 1; deviceName = armText; timeStamp = 0; id = 0; further = []; content = x; metadata = armMessage .metadata }
+armWith x =
+    record {
+      version = 1;
+      typeRest = replicate (12 - length (typeText x)) 0;
+      deviceName = armText;
+      nameRest = replicate 17 0;
+      timeStamp = 0;
+      id = 0;
+      further = [];
+      content = x;
+      metadata = armMessage .metadata;
+    }
 
 abbrev pub positionOf : List ℕ → Message
 positionOf ws = armWith (position ws)

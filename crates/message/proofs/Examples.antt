@@ -1,17 +1,18 @@
 -- Cases P4 to P6; the body by computation.
-use Prim.Native.Nat.{ℕ, _+_, _^_, _<_, _≤_}
+use Prim.Native.Nat.{ℕ, _+_, _-_, _^_, _<_, _≤_}
 use mathlib.Core.Path.{_≡_, refl, ap, _∙_}
 use mathlib.Core.Logic.{inl, inr}
 use mathlib.Core.Bool.{true}
 use mathlib.Core.List.{List, [], _++_, append-assoc, append-nil}
 use native.Mathlib.Omega.{arith}
-use lib.ListN.{length}
+use lib.ListN.{length, replicate}
 use Rattle.fields.specs.Bytes.{Bytes}
 use Rattle.fields.specs.Numbers.{beBytes}
 use Rattle.fields.specs.Lists.{all}
 use Rattle.fields.specs.Text.{isText, Text}
 use Rattle.fields.proofs.Laws.Bytes.{bytes-nil}
 use Rattle.fields.proofs.Laws.Text.{is-text}
+use Rattle.fields.proofs.Laws.Received.{fieldBytes-zeros}
 use Rattle.crc64.specs.Crc.{crcOf}
 use Rattle.crc64.proofs.Laws.{crc-lt}
 use Rattle.header.specs.Header.{Header, encodeHeader}
@@ -26,23 +27,43 @@ use Rattle.message.specs.Check.{refused, readOf}
 use Rattle.message.specs.Demand2.{Begins}
 use Rattle.message.specs.Numbers.{Whole}
 use Rattle.message.specs.Examples.{ofVersion2, getStatusText, body12, Accepted70, Examples}
+use Rattle.message.proofs.Laws.Rests.{zero-fills}
 use Rattle.message.proofs.Laws.Messages.{demand-2}
 use Rattle.message.proofs.Laws.Numbers.{refusals}
 
 -- a header of V 2 for a body
 abbrev headerOfVersion2 : List ℕ → List ℕ → ℕ → List ℕ → Header
 headerOfVersion2 t n stamp b =
-    record { version = 2; typeText = t; deviceName = n; timeStamp = stamp; bodySize = length b; crc = crcOf b }
+    record {
+      version = 2;
+      typeText = t;
+      typeRest = replicate (12 - length t) 0;
+      deviceName = n;
+      nameRest = replicate (20 - length n) 0;
+      timeStamp = stamp;
+      bodySize = length b;
+      crc = crcOf b;
+    }
 
 front : (t n : List ℕ) (stamp : ℕ) (b : List ℕ) → encodeHeader (headerOfVersion2 t n stamp b) ++ b ≡ ofVersion2 t n stamp b
 unfolding encodeHeader
-front t n stamp b = simp (append-assoc, append-nil)
+front t n stamp b = simp (append-assoc, append-nil, fieldBytes-zeros 12 t, fieldBytes-zeros 20 n)
 
 -- ---- P5
 
 status : List ℕ → ℕ → ℕ → Message
 status n stamp id =
-    record { version = 2; deviceName = n; timeStamp = stamp; id = id; further = []; content = other getStatusText []; metadata = absent }
+    record {
+      version = 2;
+      typeRest = replicate (12 - length getStatusText) 0;
+      deviceName = n;
+      nameRest = replicate (20 - length n) 0;
+      timeStamp = stamp;
+      id = id;
+      further = [];
+      content = other getStatusText [];
+      metadata = absent;
+    }
 
 opaque : Opaque getStatusText
 opaque =
@@ -78,13 +99,8 @@ status-begins l n stamp id t o s i =
     record {
       well =
           record {
-            texts =
-                record {
-                  type-text = is-text getStatusText status-text;
-                  type-fits = omega arith;
-                  name-text = t;
-                  name-fits = o;
-                };
+            type-fills = zero-fills 12 getStatusText (is-text getStatusText status-text) (omega arith);
+            name-fills = zero-fills 20 n t o;
             stamp-fits = s;
             sections =
                 inr (refl, record { id-fits = i; further-bytes = bytes-nil; further-fits = omega arith; metadata-fits = no-metadata-fits l });
@@ -128,7 +144,8 @@ p6 l t n stamp b tt′ tl nt nl s bs e =
             fits =
                 record {
                   version-fits = omega arith;
-                  texts = record { type-text = tt′; type-fits = tl; name-text = nt; name-fits = nl };
+                  type-fills = zero-fills 12 t tt′ tl;
+                  name-fills = zero-fills 20 n nt nl;
                   stamp-fits = s;
                   size-fits = omega arith;
                   crc-fits = crc-lt b;

@@ -1,5 +1,6 @@
 pub mod Below
 pub mod Layout
+pub mod Rests
 pub mod Body
 pub mod Stream
 pub mod Read

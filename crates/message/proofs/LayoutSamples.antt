@@ -6,6 +6,7 @@ use Rattle.fields.specs.Bytes.{same, sized}
 use Rattle.fields.specs.Lists.{all}
 use Rattle.fields.specs.Numbers.{beVal, beBytes}
 use Rattle.fields.specs.Text.{isText, textOf, pastText, allZero, textOk, textClean, fieldOk, textBytes}
+use Rattle.fields.specs.Received.{fieldBytes}
 use Rattle.fields.specs.declared.Written.the-variants.{Wrote}
 use Rattle.fields.specs.Answer.{writtenOf, roomFault}
 use Rattle.crc64.specs.Crc.{bitStep, run, bitAt, bitsOf, bits, crcOf}
@@ -14,29 +15,29 @@ use Rattle.header.specs.Check.{headerOf, shortFault, textsFault, limitFault, he
 use Rattle.metadata.specs.Check.{indexIn, entryOk, entriesOk, sectionOk, metadataFault}
 use Rattle.pose.specs.Transform.{transformFault}
 use Rattle.content.specs.Kinds.{transformText, kindOf}
-use Rattle.content.specs.Check.{contentFault}
+use Rattle.content.specs.Check.{contentFault, contentClean}
 use Rattle.message.specs.declared.Layout.the-variants.{New}
 use Rattle.message.specs.Body.{encodeBody}
 use Rattle.message.specs.Message.{encodeWith}
-use Rattle.message.specs.Check.{extendedOk, bodyFault, sizesFault, placesOf, wholeFault, versionFault, crcFault, sectionsFault, foundFault, bodyChecks, frontFault, numberOf, stepOf, readOf}
+use Rattle.message.specs.Check.{extendedOk, bodyFault, sizesFault, placesOf, wholeFault, versionFault, crcFault, sectionsFault, foundFault, bodyChecks, bodyClean, frontFault, numberOf, stepOf, readOf}
 use Rattle.message.specs.Writer.{fits, fitFault, sectionsChecks, writeChecks, writeFault, messageWritten}
 use Rattle.message.specs.Samples.{statusText}
 use Rattle.message.specs.LayoutSamples.{rowOf, statusRows, transformRows, writesMetadata, entries, LayoutSamples}
 
 status-rows : map (rowOf statusText) statusRows ≡ statusRows
-unfolding encodeWith encodeHeader encodeBody beVal beBytes textBytes sized crcOf bits bitsOf bitAt run bitStep readOf numberOf stepOf frontFault bodyChecks foundFault sizesFault sectionsFault crcFault versionFault wholeFault placesOf bodyFault extendedOk contentFault kindOf transformFault metadataFault sectionOk entriesOk entryOk indexIn headerOf shortFault textsFault limitFault headerFault textOf pastText allZero textOk textClean fieldOk isText all same
+unfolding encodeWith encodeHeader encodeBody beVal beBytes textBytes fieldBytes sized crcOf bits bitsOf bitAt run bitStep readOf numberOf stepOf frontFault bodyChecks bodyClean foundFault sizesFault sectionsFault crcFault versionFault wholeFault placesOf bodyFault extendedOk contentFault contentClean kindOf transformFault metadataFault sectionOk entriesOk entryOk indexIn headerOf shortFault textsFault limitFault headerFault textOf pastText allZero textOk textClean fieldOk isText all same
 status-rows = refl
 
 transform-rows : map (rowOf transformText) transformRows ≡ transformRows
-unfolding encodeWith encodeHeader encodeBody beVal beBytes textBytes sized crcOf bits bitsOf bitAt run bitStep readOf numberOf stepOf frontFault bodyChecks foundFault sizesFault sectionsFault crcFault versionFault wholeFault placesOf bodyFault extendedOk contentFault kindOf transformFault metadataFault sectionOk entriesOk entryOk indexIn headerOf shortFault textsFault limitFault headerFault textOf pastText allZero textOk textClean fieldOk isText all same
+unfolding encodeWith encodeHeader encodeBody beVal beBytes textBytes fieldBytes sized crcOf bits bitsOf bitAt run bitStep readOf numberOf stepOf frontFault bodyChecks bodyClean foundFault sizesFault sectionsFault crcFault versionFault wholeFault placesOf bodyFault extendedOk contentFault contentClean kindOf transformFault metadataFault sectionOk entriesOk entryOk indexIn headerOf shortFault textsFault limitFault headerFault textOf pastText allZero textOk textClean fieldOk isText all same
 transform-rows = refl
 
 most-entries : writesMetadata New (0x1F ∷ 0xFF ∷ entries 8191) 73791 ≡ Wrote 73791
-unfolding encodeWith encodeHeader encodeBody beVal beBytes textBytes sized messageWritten writeFault writeChecks sectionsChecks fitFault fits namesFault limitFault versionFault sectionsFault metadataFault sectionOk entriesOk entryOk indexIn contentFault kindOf isText all same writtenOf roomFault
+unfolding encodeWith encodeHeader encodeBody beVal beBytes textBytes fieldBytes sized messageWritten writeFault writeChecks sectionsChecks fitFault fits namesFault limitFault versionFault sectionsFault metadataFault sectionOk entriesOk entryOk indexIn contentFault contentClean kindOf isText all same writtenOf roomFault
 most-entries = refl
 
 pub layout-samples : LayoutSamples
-unfolding crcOf bits bitsOf bitAt run bitStep readOf numberOf stepOf frontFault bodyChecks foundFault sizesFault crcFault wholeFault placesOf bodyFault headerOf shortFault textsFault headerFault textOf pastText allZero textOk textClean fieldOk encodeWith encodeHeader encodeBody beVal beBytes textBytes sized messageWritten writeFault writeChecks sectionsChecks fitFault fits namesFault limitFault versionFault sectionsFault metadataFault sectionOk entriesOk entryOk indexIn contentFault kindOf isText all same writtenOf roomFault
+unfolding crcOf bits bitsOf bitAt run bitStep readOf numberOf stepOf frontFault bodyChecks bodyClean foundFault sizesFault crcFault wholeFault placesOf bodyFault headerOf shortFault textsFault headerFault textOf pastText allZero textOk textClean fieldOk encodeWith encodeHeader encodeBody beVal beBytes textBytes fieldBytes sized messageWritten writeFault writeChecks sectionsChecks fitFault fits namesFault limitFault versionFault sectionsFault metadataFault sectionOk entriesOk entryOk indexIn contentFault contentClean kindOf isText all same writtenOf roomFault
 layout-samples =
     record {
       no-sizes = λ l. refl;

@@ -8,6 +8,7 @@ use Rattle.fields.specs.Bytes.{same, sized}
 use Rattle.fields.specs.Lists.{all, flat}
 use Rattle.fields.specs.Numbers.{beVal, beBytes}
 use Rattle.fields.specs.Text.{isText, textOf, pastText, allZero, textOk, textClean, fieldOk, textBytes}
+use Rattle.fields.specs.Received.{fieldBytes}
 use Rattle.fields.specs.Answer.{writtenOf, roomFault, outAfter}
 use Rattle.crc64.specs.Crc.{bitStep, run, bitAt, bitsOf, bits, crcOf}
 use Rattle.header.specs.Header.{encodeHeader}
@@ -18,7 +19,8 @@ use Rattle.pose.specs.Words.{wordBytes}
 use Rattle.pose.specs.Transform.{transformFault}
 use Rattle.pose.specs.Position.{six, wordsIn, positionFault}
 use Rattle.content.specs.Kinds.{transformText, positionText, kindOf}
-use Rattle.content.specs.Check.{contentFault}
+use Rattle.content.specs.Check.{contentFault, contentClean}
+use Rattle.cleaning.specs.Clean.{cleanBytes}
 use Rattle.content.specs.Tree as tree
 use Rattle.content.proofs.Examples as content
 use Rattle.content.specs.Tree.{Opaque}
@@ -27,11 +29,12 @@ use Rattle.message.specs.declared.Layout.the-variants.{New, Old}
 use Rattle.message.specs.Layouts.{layoutOf}
 use Rattle.message.specs.Body.{encodeBody, MetadataFits}
 use Rattle.message.specs.Message.{encodeWith, WellFormed}
-use Rattle.message.specs.Check.{extendedOk, bodyFault, sizesFault, placesOf, wholeFault, versionFault, crcFault, sectionsFault, foundFault, bodyChecks, frontFault, numberOf, stepOf, readOf, refused}
+use Rattle.message.specs.Check.{extendedOk, bodyFault, sizesFault, placesOf, wholeFault, versionFault, crcFault, sectionsFault, foundFault, bodyChecks, bodyClean, frontFault, numberOf, stepOf, readOf, refused}
 use Rattle.message.specs.Writer.{fits, fitFault, sectionsChecks, writeChecks, writeFault, messageWritten, messageOut}
+use Rattle.message.proofs.Laws.Rests.{zero-fills}
 use Rattle.message.proofs.Laws.Below.{each-below, bytes-below}
 use Rattle.fields.proofs.Laws.Text.{is-text}
-use Rattle.message.specs.Samples.{armMessage, armWords, statusText, probeText, probeMessage, pointText, pointWords, pointMessage, ProbeSample, PointSample, otherThan, probeBytes, pointBytes, Samples}
+use Rattle.message.specs.Samples.{armText, armMessage, armWords, statusText, probeText, probeMessage, pointText, pointWords, pointMessage, ProbeSample, PointSample, otherThan, probeBytes, pointBytes, Samples}
 
 opaque : Opaque statusText
 opaque =
@@ -46,13 +49,8 @@ arm-well : (l : Layout) → WellFormed l armMessage
 unfolding encodeMetadata WellMetadata tree.WellFormed tree.encode encodeBody wordBytes flat beBytes isText all
 arm-well l =
     record {
-      texts =
-          record {
-            type-text = is-text transformText refl;
-            type-fits = omega arith;
-            name-text = is-text (armMessage .deviceName) refl;
-            name-fits = omega arith;
-          };
+      type-fills = zero-fills 12 transformText (is-text transformText refl) (omega arith);
+      name-fills = zero-fills 20 armText (is-text armText refl) (omega arith);
       stamp-fits = omega arith;
       sections = inl (refl, record { no-id = refl; no-further = refl; no-metadata = refl });
       content = record { count = refl; words = each-below (256 ^ 4) armWords refl };
@@ -80,8 +78,8 @@ probe-well : (l : Layout) → WellFormed l probeMessage
 unfolding encodeMetadata entryHeader entryData WellMetadata tree.WellFormed tree.encode encodeBody flat beBytes isText all
 probe-well l =
     record {
-      texts =
-          record { type-text = is-text statusText refl; type-fits = omega arith; name-text = is-text probeText refl; name-fits = omega arith };
+      type-fills = zero-fills 12 statusText (is-text statusText refl) (omega arith);
+      name-fills = zero-fills 20 probeText (is-text probeText refl) (omega arith);
       stamp-fits = omega arith;
       sections =
           inr (
@@ -102,8 +100,8 @@ point-well : (l : Layout) → WellFormed l pointMessage
 unfolding encodeMetadata entryHeader entryData WellMetadata tree.WellFormed tree.encode encodeBody wordBytes flat beBytes isText all
 point-well l =
     record {
-      texts =
-          record { type-text = is-text positionText refl; type-fits = omega arith; name-text = is-text pointText refl; name-fits = omega arith };
+      type-fills = zero-fills 12 positionText (is-text positionText refl) (omega arith);
+      name-fills = zero-fills 20 pointText (is-text pointText refl) (omega arith);
       stamp-fits = omega arith;
       sections =
           inr (
@@ -126,7 +124,7 @@ by-layout P n o New = n
 by-layout P n o Old = o
 
 pub samples : Samples
-unfolding encodeWith encodeHeader encodeBody encodeMetadata entryHeader entryData tree.encode wordBytes flat beBytes textBytes sized crcOf bits bitsOf bitAt run bitStep readOf numberOf stepOf frontFault bodyChecks foundFault sizesFault sectionsFault crcFault versionFault wholeFault placesOf bodyFault extendedOk contentFault kindOf transformFault positionFault wordsIn metadataFault sectionOk entriesOk entryOk indexIn headerOf shortFault textsFault limitFault headerFault beVal textOf pastText allZero textOk textClean fieldOk isText all same messageWritten messageOut writeFault writeChecks sectionsChecks fitFault fits namesFault writtenOf roomFault outAfter layoutOf
+unfolding encodeWith encodeHeader encodeBody encodeMetadata entryHeader entryData tree.encode wordBytes flat beBytes textBytes fieldBytes sized crcOf bits bitsOf bitAt run bitStep readOf numberOf stepOf frontFault bodyChecks bodyClean foundFault sizesFault sectionsFault crcFault versionFault wholeFault placesOf bodyFault extendedOk contentFault contentClean kindOf transformFault positionFault wordsIn metadataFault sectionOk entriesOk entryOk indexIn headerOf shortFault textsFault limitFault headerFault beVal textOf pastText allZero textOk textClean fieldOk isText all same cleanBytes messageWritten messageOut writeFault writeChecks sectionsChecks fitFault fits namesFault writtenOf roomFault outAfter layoutOf
 samples =
     record {
       numbers = refl;

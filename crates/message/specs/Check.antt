@@ -1,18 +1,20 @@
 -- What the reader answers to the front of a byte stream, for any bytes: the number, the step, and where the message's parts stand.
 use Prim.Native.Nat.{ℕ, _+_, _-_}
-use mathlib.Core.Bool.{Bool, true, cond, _&&_, _||_}
+use mathlib.Core.Bool.{Bool, true, false, cond, _&&_, _||_}
 use mathlib.Core.List.{List}
 use lib.Dec.{eqb, leb}
-use lib.ListN.{length}
+use lib.ListN.{length, replicate}
 use Rattle.fields.specs.Bytes.{part}
 use Rattle.fields.specs.Numbers.{beAt}
 use Rattle.fields.specs.Checks.{orElse}
+use Rattle.fields.specs.declared.Checked.{Checked}
+use Rattle.fields.specs.Answer.{checked}
 use Rattle.crc64.specs.Crc.{crcOf}
 use Rattle.header.specs.declared.HeaderRead.{HeaderRead}
 use Rattle.header.specs.Check.{headerOf, headerFault}
 use Rattle.header.specs.Check as header
 use Rattle.metadata.specs.Check.{indexIn, metadataFault}
-use Rattle.content.specs.Check.{contentFault, deepest}
+use Rattle.content.specs.Check.{contentFault, contentClean, deepest}
 use Rattle.message.specs.declared.Layout.{Layout}
 use Rattle.message.specs.declared.Layout.the-variants.{New, Old}
 use Rattle.message.specs.declared.Answer.{Answer}
@@ -136,6 +138,13 @@ bodyChecks l version crc t b =
     (orElse (crcFault crc b)
     (orElse (bodyFault l version b) (foundFault l version t b (sectionsOf l version b))))
 
+-- the mark of its content
+unfoldable pub bodyClean : Layout → ℕ → List ℕ → List ℕ → Bool
+bodyClean l version t b = contentClean deepest t (sectionsOf l version b .content)
+
+unfoldable pub bodyChecked : Layout → ℕ → ℕ → List ℕ → List ℕ → Checked
+bodyChecked l version crc t b = checked (bodyChecks l version crc t b) (bodyClean l version t b)
+
 abbrev pub bodyAt : List ℕ → List ℕ
 bodyAt s = part (headerOf s .bodySize) 58 s
 
@@ -152,7 +161,7 @@ stepOf s = cond (eqb (frontFault s) 0) (58 + headerOf s .bodySize) 0
 
 -- ---- the answer
 
--- a refusal: all but the number and the step is 0
+-- a refusal: all but the number and the step is 0, and the mark is false
 abbrev pub refused : ℕ → ℕ → Answer
 refused number step =
     record {
@@ -169,11 +178,12 @@ refused number step =
       «content_len» = 0;
       «metadata_at» = 0;
       «metadata_len» = 0;
+      clean = false;
     }
 
--- a message with this header whose sections stand at these places of its body; the answer's places are those in the stream
-abbrev pub accepted : HeaderRead → Places → Answer
-accepted h p =
+-- a message with this header and mark whose sections stand at these places of its body; the answer's places are those in the stream
+abbrev pub accepted : HeaderRead → Places → Bool → Answer
+accepted h p mark =
     record {
       number = 0;
       step = 58 + h .«body_size»;
@@ -188,11 +198,18 @@ accepted h p =
       «content_len» = p .«content_len»;
       «metadata_at» = 58 + p .«metadata_at»;
       «metadata_len» = p .«metadata_len»;
+      clean = mark;
     }
+
+-- the mark: both texts of the header and all those in the content are clean (rule 13.2)
+abbrev pub cleanOf : Layout → List ℕ → Bool
+cleanOf l s = header.handed (headerOf s) .clean && bodyClean l (headerOf s .version) (headerOf s .typeText) (bodyAt s)
 
 unfoldable pub readOf : Layout → List ℕ → Answer
 readOf l s =
-    cond (eqb (numberOf l s) 0) (accepted (header.handed (headerOf s)) (placesOf l (headerOf s .version) (bodyAt s))) (refused (numberOf l s) (stepOf s))
+    cond (eqb (numberOf l s) 0)
+    (accepted (header.handed (headerOf s)) (placesOf l (headerOf s .version) (bodyAt s)) (cleanOf l s))
+    (refused (numberOf l s) (stepOf s))
 
 -- ---- the parts of a stream that an answer names; for an answer that is not this stream's, as many of their bytes as there are
 
@@ -211,13 +228,15 @@ contentIn s a = part (a .«content_len») (a .«content_at») s
 abbrev pub metadataIn : List ℕ → Answer → List ℕ
 metadataIn s a = part (a .«metadata_len») (a .«metadata_at») s
 
--- all that an answer hands out of a stream
+-- all that an answer hands out of a stream: of TYPE and DEVICE_NAME the texts alone, so their rests are zeros
 abbrev pub handed : List ℕ → Answer → Parts
 handed s a =
     record {
       version = a .version;
       typeText = typeIn s a;
+      typeRest = replicate (12 - length (typeIn s a)) 0;
       deviceName = nameIn s a;
+      nameRest = replicate (20 - length (nameIn s a)) 0;
       timeStamp = a .«time_stamp»;
       sections = record { id = a .id; further = furtherIn s a; content = contentIn s a; metadata = metadataIn s a };
     }

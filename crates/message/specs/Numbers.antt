@@ -1,9 +1,10 @@
 -- The number of each refusal, in order, in each layout: of the reader with its step (rules 5.2 and 5.3), and of the writer (rules 5.8 to 5.11).
-use Prim.Native.Nat.{ℕ, _+_, _^_, _<_, _≤_}
+use Prim.Native.Nat.{ℕ, _+_, _-_, _^_, _<_, _≤_}
 use mathlib.Core.Path.{_≡_}
 use mathlib.Core.Logic.{_⊎_}
+use mathlib.Core.Bool.{true, false}
 use mathlib.Core.List.{List, _++_}
-use lib.ListN.{length, drop}
+use lib.ListN.{length, drop, replicate}
 use Rattle.fields.specs.Bytes.{Bytes}
 use Rattle.fields.specs.Numbers.{beAt}
 use Rattle.fields.specs.Checks.{orElse}
@@ -21,7 +22,7 @@ use Rattle.message.specs.Body.{Sections, Plain, WellSections, encodeBody
 use Rattle.message.specs.Message.{Parts}
 use Rattle.message.specs.Check.{refused, readOf, handed}
 use Rattle.message.specs.Bodies.{IsVersion, BreaksExtended, Agrees}
-use Rattle.message.specs.Writer.{bodyGiven, encodeParts, messageWritten, messageOut}
+use Rattle.message.specs.Writer.{bodyGiven, encodeParts, cleanParts, messageWritten, messageOut}
 
 -- ---- the reader
 
@@ -61,6 +62,7 @@ numberAndStep a =
       «content_len» = 0;
       «metadata_at» = 0;
       «metadata_len» = 0;
+      clean = false;
     }
 
 pub record Refusals (l : Layout) : Type 0 where
@@ -87,12 +89,14 @@ pub record Refusals (l : Layout) : Type 0 where
 
 -- ---- the writer
 
--- what every value of the arguments' types keeps
+-- what every value of the arguments' types keeps, and the zeros behind the two texts
 pub record Given (l : Layout) (p : Parts) : Type 0 where
   pub version-fits : p .version < 256 ^ 2
   pub stamp-fits : p .timeStamp < 256 ^ 8
   pub id-fits : p .sections .id < 256 ^ 4
   pub further-bytes : Bytes (p .sections .further)
+  pub type-zeros : p .typeRest ≡ replicate (12 - length (p .typeText)) 0
+  pub name-zeros : p .nameRest ≡ replicate (20 - length (p .deviceName)) 0
   pub body-fits : length (bodyGiven l p) < 256 ^ 8
 
 -- of V 2, metadata with a size that does not fit its two bytes
@@ -111,12 +115,13 @@ abbrev pub HasIndex : Layout → ℕ → List ℕ → Type 0
 HasIndex New version s = version ≡ 2 → indexIn s ≤ length s
 HasIndex Old version s = Unit {0}
 
--- what was written is accepted, and handed out as what was given; the bytes beyond are as they were
+-- what was written is accepted and marked clean, and handed out as what was given, its content cleaned; the bytes beyond are as they were
 pub record ReadBack (l : Layout) (p : Parts) (out : List ℕ) : Type 0 where
   pub count : writtenCount (messageWritten l p (length out)) ≡ length (encodeParts l p)
-  pub bytes : messageOut l p out ≡ encodeParts l p ++ drop (length (encodeParts l p)) out
-  pub accepted : readOf l (encodeParts l p) .number ≡ 0
-  pub handed-out : handed (encodeParts l p) (readOf l (encodeParts l p)) ≡ p
+  pub bytes : messageOut l p out ≡ encodeParts l (cleanParts p) ++ drop (length (encodeParts l p)) out
+  pub accepted : readOf l (encodeParts l (cleanParts p)) .number ≡ 0
+  pub clean : readOf l (encodeParts l (cleanParts p)) .clean ≡ true
+  pub handed-out : handed (encodeParts l (cleanParts p)) (readOf l (encodeParts l (cleanParts p))) ≡ cleanParts p
 
 pub record WriterNumbers (l : Layout) : Type 0 where
   pub names : (p : Parts) (room : ℕ) → (WellTexts (p .typeText) (p .deviceName) → ⊥) → writtenNumber (messageWritten l p room) ≡ 2
@@ -127,11 +132,12 @@ pub record WriterNumbers (l : Layout) : Type 0 where
   pub no-metadata : (p : Parts) (room : ℕ) → WellTexts (p .typeText) (p .deviceName) → length (bodyGiven l p) ≤ limit → IsVersion (p .version)
       → (Unfit l (p .version) (p .sections) → ⊥) → Bytes (p .sections .metadata) → (IsMetadata (p .sections .metadata) → ⊥)
       → writtenNumber (messageWritten l p room) ≡ 7
-  -- else the reader's number for the bytes that it would write, then 20
+  -- else the reader's number for the message with its content as given, then 20
   pub as-reader : (p : Parts) (room : ℕ) → Given l p → WellTexts (p .typeText) (p .deviceName) → (Unfit l (p .version) (p .sections) → ⊥)
       → HasIndex l (p .version) (p .sections .metadata)
       → writtenNumber (messageWritten l p room) ≡ orElse (readOf l (encodeParts l p) .number) (roomFault (length (encodeParts l p)) room)
   -- a refusal leaves the buffer as it was
   pub untouched : (p : Parts) (out : List ℕ) → (writtenNumber (messageWritten l p (length out)) ≡ 0 → ⊥) → messageOut l p out ≡ out
-  -- else it writes that message
-  pub read-back : (p : Parts) (out : List ℕ) → Given l p → writtenNumber (messageWritten l p (length out)) ≡ 0 → ReadBack l p out
+  -- else it writes that message, its content cleaned
+  pub read-back : (p : Parts) (out : List ℕ) → Given l p → Bytes (p .sections .content) → writtenNumber (messageWritten l p (length out)) ≡ 0
+      → ReadBack l p out

@@ -2,6 +2,7 @@
 -- each number of the reader and the writer. They fix the order of the fields, the limits and the order of the checks, in both layouts.
 use Prim.Native.Nat.{ℕ, _+_, _-_}
 use mathlib.Core.Path.{_≡_}
+use mathlib.Core.Bool.{true, false}
 use mathlib.Core.List.{List, [], _∷_, _++_, map}
 use lib.ListN.{length, take, drop, replicate}
 use Rattle.fields.specs.declared.Written.{Written}
@@ -49,7 +50,9 @@ abbrev pub armMessage : Message
 armMessage =
     record {
       version = 1;
+      typeRest = replicate 3 0;
       deviceName = armText;
+      nameRest = replicate 17 0;
       timeStamp = 0x0102030405060708;
       id = 0;
       further = [];
@@ -78,7 +81,7 @@ armBytes =
     ∷ armContent
     ∷ [])
 
--- the answer to a message: its version; where its further bytes begin, 58 in V 1 and 70 in V 2; the lengths of its texts; its time stamp and
+-- the answer to a clean message: its version; where its further bytes begin, 58 in V 1 and 70 in V 2; the lengths of its texts; its time stamp and
 -- MSG_ID; the lengths of its further bytes, its content and its metadata
 abbrev pub answerOf : (version start typeLength nameLength stamp id further size metadata : ℕ) → Answer
 answerOf version start typeLength nameLength stamp id further size metadata =
@@ -96,6 +99,7 @@ answerOf version start typeLength nameLength stamp id further size metadata =
       «content_len» = size;
       «metadata_at» = start + further + size;
       «metadata_len» = metadata;
+      clean = true;
     }
 
 -- in V 1: the lengths of its texts, its time stamp and the length of its content
@@ -143,7 +147,9 @@ abbrev pub probeMessage : Message
 probeMessage =
     record {
       version = 2;
+      typeRest = replicate 6 0;
       deviceName = probeText;
+      nameRest = replicate 15 0;
       timeStamp = 0x1112131415161718;
       id = 0x21222324;
       further = 0x31 ∷ 0x32 ∷ [];
@@ -206,7 +212,9 @@ abbrev pub pointMessage : Message
 pointMessage =
     record {
       version = 2;
+      typeRest = replicate 4 0;
       deviceName = pointText;
+      nameRest = [];
       timeStamp = 0x3132333435363738;
       id = 0x41424344;
       further = 0x51 ∷ 0x52 ∷ [];
@@ -260,9 +268,10 @@ pub record Sample (l : Layout) (m : Message) (s : List ℕ) (a : Answer) (f : Fi
   pub bytes : encode l m ≡ s
   pub read : readOf l s ≡ a
   pub read-more : readOf l (s ++ (7 ∷ [])) ≡ a
-  -- with another last byte; without it; as V 3
+  -- with another last byte; without it; as V 3; as V 3 and without its last byte
   pub damaged : readOf l (take (length s - 1) s ++ (0 ∷ [])) ≡ refused 5 (length s)
-  pub changed : readOf l (take (length s - 1) s) ∷ readOf l (0 ∷ 3 ∷ drop 2 s) ∷ [] ≡ refused 1 0 ∷ refused 4 (length s) ∷ []
+  pub changed : readOf l (take (length s - 1) s) ∷ readOf l (0 ∷ 3 ∷ drop 2 s) ∷ readOf l (0 ∷ 3 ∷ drop 2 (take (length s - 1) s)) ∷ []
+      ≡ refused 1 0 ∷ refused 4 (length s) ∷ refused 1 0 ∷ []
   pub parts : typeIn s a ∷ nameIn s a ∷ furtherIn s a ∷ contentIn s a ∷ metadataIn s a ∷ [] ≡ type ∷ name ∷ further ∷ content ∷ metadata ∷ []
   pub written : messageWritten l (given f type name further content metadata) (length s) ≡ Wrote (length s)
   pub out : messageOut l (given f type name further content metadata) (replicate (length s) 255 ++ (7 ∷ [])) ≡ s ++ (7 ∷ [])
@@ -345,6 +354,7 @@ noAnswer =
       «content_len» = 0;
       «metadata_at» = 0;
       «metadata_len» = 0;
+      clean = false;
     }
 
 pub record Samples : Type 0 where
@@ -360,12 +370,12 @@ pub record Samples : Type 0 where
   pub position-12 : (l : Layout) → readOf l (positionBytes 12) ≡ positionAnswer 12
   pub position-28 : (l : Layout) → readOf l (positionBytes 28) ≡ positionAnswer 28
   -- ---- the reader, rule 5.2
-  -- no bytes: all but the number is 0
+  -- no bytes: all but the number is 0, and the mark is false
   pub nothing : (l : Layout) → readOf l [] ≡ noAnswer
-  -- 57 bytes that are no text field; 2 before 3; 3 before the 1 of the whole; the largest body; no body
+  -- 57 bytes whose TYPE has a byte 128; 2 before 3; 3 before the 1 of the whole; the largest body; no body
   pub front : (l : Layout) → answersTo l
-      (take 57 (headOf (0 ∷ 65 ∷ []) 0)
-      ∷ headOf (0 ∷ 65 ∷ []) 16777217
+      (take 57 (headOf (128 ∷ []) 0)
+      ∷ headOf (128 ∷ []) 16777217
       ∷ headOf [] 16777217
       ∷ headOf [] 16777216
       ∷ headOf [] 1

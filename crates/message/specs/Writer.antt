@@ -1,14 +1,17 @@
--- What the writer answers and leaves in the buffer, for any arguments. It checks as the reader does, and 20 last (rule 5.8).
-use Prim.Native.Nat.{ℕ, _+_}
+-- What the writer answers and leaves in the buffer, for any arguments. It checks as the reader does, and 20 last (rule 5.8). What it writes is
+-- cleaned (rule 13.6).
+use Prim.Native.Nat.{ℕ, _+_, _-_}
 use mathlib.Core.Bool.{Bool, cond, _&&_}
 use mathlib.Core.List.{List}
 use lib.Dec.{eqb, leb}
-use lib.ListN.{length}
+use lib.ListN.{length, replicate}
 use Rattle.fields.specs.declared.Written.{Written}
 use Rattle.fields.specs.Checks.{orElse}
 use Rattle.fields.specs.Answer.{writtenOf, roomFault, outAfter}
 use Rattle.header.specs.Check.{namesFault, limitFault}
 use Rattle.metadata.specs.Check.{indexIn}
+use Rattle.content.specs.Check.{deepest}
+use Rattle.cleaning.specs.Clean.{cleanBytes}
 use Rattle.message.specs.declared.Layout.{Layout}
 use Rattle.message.specs.declared.Layout.the-variants.{New, Old}
 use Rattle.message.specs.declared.FixedFields.{FixedFields}
@@ -19,13 +22,15 @@ use Rattle.message.specs.Check.{versionFault, sectionsFault}
 abbrev pub sectionsGiven : ℕ → List ℕ → List ℕ → List ℕ → Sections
 sectionsGiven id further content metadata = record { id = id; further = further; content = content; metadata = metadata }
 
--- the message that is given: its fixed fields, type, device name, further bytes, content and metadata
+-- the message that is given: its fixed fields, type, device name, further bytes, content and metadata; zeros after the two texts
 abbrev pub given : FixedFields → List ℕ → List ℕ → List ℕ → List ℕ → List ℕ → Parts
 given f typeText deviceName further content metadata =
     record {
       version = f .version;
       typeText = typeText;
+      typeRest = replicate (12 - length typeText) 0;
       deviceName = deviceName;
+      nameRest = replicate (20 - length deviceName) 0;
       timeStamp = f .«time_stamp»;
       sections = sectionsGiven (f .id) further content metadata;
     }
@@ -73,8 +78,24 @@ writeChecks l p =
 unfoldable pub writeFault : Layout → Parts → ℕ → ℕ
 writeFault l p room = orElse (writeChecks l p) (roomFault (length (encodeParts l p)) room)
 
+-- the message that is written: its content cleaned
+abbrev pub cleanSections : List ℕ → Sections → Sections
+cleanSections t x = sectionsGiven (x .id) (x .further) (cleanBytes deepest t (x .content)) (x .metadata)
+
+abbrev pub cleanParts : Parts → Parts
+cleanParts p =
+    record {
+      version = p .version;
+      typeText = p .typeText;
+      typeRest = p .typeRest;
+      deviceName = p .deviceName;
+      nameRest = p .nameRest;
+      timeStamp = p .timeStamp;
+      sections = cleanSections (p .typeText) (p .sections);
+    }
+
 unfoldable pub messageWritten : Layout → Parts → ℕ → Written
 messageWritten l p room = writtenOf (writeFault l p room) (length (encodeParts l p))
 
 unfoldable pub messageOut : Layout → Parts → List ℕ → List ℕ
-messageOut l p out = outAfter (writeFault l p (length out)) (encodeParts l p) out
+messageOut l p out = outAfter (writeFault l p (length out)) (encodeParts l (cleanParts p)) out

@@ -14,6 +14,8 @@ ghost use Rattle.message.specs.Check.{extendedOk, bodyFault, sizesFault,
 ghost use Rattle.message.specs.Writer.{sectionsGiven, bodyLength, fits};
 ghost use Rattle.metadata.specs.Check.{indexIn};
 ghost use Rattle.header.specs.Header.{limit};
+ghost use Rattle.content.specs.Check.{deepest};
+ghost use Rattle.cleaning.specs.Clean.{cleanBytes};
 ghost use lib.Dec.{leb};
 
 // MSG_ID, and where the sections stand in the body.
@@ -157,17 +159,18 @@ pub(crate) fn is_fit(
     metadata == 0
 }
 
-// Writes a body of V 2 to the front of a buffer.
+// Writes a body of V 2 to the front of a buffer with room for it, the content cleaned.
 fn put_extended(
     layout: Layout,
     id: u32,
     further: &[u8],
+    type_text: &[u8],
     content: &[u8],
     metadata: &[u8],
     out: &mut [u8],
 )
-    requires { ⌜ (12 + length (now further) ≤ 65535) × MetadataFits layout (indexIn (now metadata)) (length (now metadata)) × (length (now content) ≤ limit) ⌝ }
-    ensures { λ _. ⌜ now (out .exit) ≡ sets (now (out .entry)) 0 (join (extendedFields layout (indexIn (now (metadata .entry))) (sectionsGiven id (now (further .entry)) (now (content .entry)) (now (metadata .entry))))) ⌝ }
+    requires { ⌜ (12 + length (now further) ≤ 65535) × MetadataFits layout (indexIn (now metadata)) (length (now metadata)) × (length (now content) ≤ limit) × (12 + length (now further) + length (now content) ≤ length (now out)) ⌝ }
+    ensures { λ _. ⌜ now (out .exit) ≡ sets (now (out .entry)) 0 (join (extendedFields layout (indexIn (now (metadata .entry))) (sectionsGiven id (now (further .entry)) (cleanBytes deepest (now («type_text» .entry)) (now (content .entry))) (now (metadata .entry))))) ⌝ }
 {
     let content_at = 12 + further.len();
     let metadata_at = content_at + content.len();
@@ -178,26 +181,27 @@ fn put_extended(
     fields::number::put32(numbers.third, 4, out);
     fields::number::put32(numbers.fourth, 8, out);
     fields::store::put(further, 12, out);
-    fields::store::put(content, content_at, out);
+    cleaning::put_clean(type_text, content, 4, content_at, out);
     fields::store::put(metadata, metadata_at, out);
 }
 
-// Writes a body to the front of a buffer.
+// Writes a body to the front of a buffer with room for it, the content cleaned.
 pub(crate) fn put_body(
     layout: Layout,
     version: u16,
     id: u32,
     further: &[u8],
+    type_text: &[u8],
     content: &[u8],
     metadata: &[u8],
     out: &mut [u8],
 )
-    requires { ⌜ (version ≡ 2 → (12 + length (now further) ≤ 65535) × MetadataFits layout (indexIn (now metadata)) (length (now metadata))) × (length (now content) ≤ limit) ⌝ }
-    ensures { λ _. ⌜ now (out .exit) ≡ sets (now (out .entry)) 0 (encodeBody layout version (indexIn (now (metadata .entry))) (sectionsGiven id (now (further .entry)) (now (content .entry)) (now (metadata .entry)))) ⌝ }
+    requires { ⌜ (version ≡ 2 → (12 + length (now further) ≤ 65535) × MetadataFits layout (indexIn (now metadata)) (length (now metadata))) × (length (now content) ≤ limit) × (bodyLength version (length (now further)) (length (now content)) (length (now metadata)) ≤ length (now out)) ⌝ }
+    ensures { λ _. ⌜ now (out .exit) ≡ sets (now (out .entry)) 0 (encodeBody layout version (indexIn (now (metadata .entry))) (sectionsGiven id (now (further .entry)) (cleanBytes deepest (now («type_text» .entry)) (now (content .entry))) (now (metadata .entry)))) ⌝ }
 {
     if version == 2 {
-        put_extended(layout, id, further, content, metadata, out);
+        put_extended(layout, id, further, type_text, content, metadata, out);
         return;
     }
-    fields::store::put(content, 0, out);
+    cleaning::put_clean(type_text, content, 4, 0, out);
 }

@@ -2,7 +2,9 @@
 mod body;
 mod extended;
 
+use fields::Checked;
 use fields::Written;
+use fields::marked;
 ghost use mathlib.Core.Path.{_≡_};
 ghost use Prim.Native.Nat.{_+_, _≤_};
 ghost use mathlib.Core.List.{_++_};
@@ -10,10 +12,11 @@ ghost use lib.ListN.{length, drop};
 ghost use Rattle.fields.specs.Checks.{orElse};
 ghost use Rattle.header.specs.Header.{limit};
 ghost use Rattle.metadata.specs.Check.{metadataFault};
-ghost use Rattle.content.specs.Check.{contentFault, deepest};
+ghost use Rattle.fields.specs.Answer.{checked};
+ghost use Rattle.content.specs.Check.{contentFault, contentClean, deepest};
 ghost use Rattle.message.specs.Layouts.{layoutOf};
-ghost use Rattle.message.specs.Check.{versionFault, bodyFault, bodyChecks, placesOf, refused, accepted, readOf, typeIn, nameIn, furtherIn, contentIn, metadataIn};
-ghost use Rattle.message.specs.Writer.{given, bodyGiven, encodeParts, sectionsGiven, sectionsChecks, writeChecks, messageWritten, messageOut};
+ghost use Rattle.message.specs.Check.{versionFault, bodyFault, bodyChecked, placesOf, refused, accepted, readOf, typeIn, nameIn, furtherIn, contentIn, metadataIn};
+ghost use Rattle.message.specs.Writer.{given, cleanParts, bodyGiven, encodeParts, sectionsGiven, sectionsChecks, writeChecks, messageWritten, messageOut};
 
 // The two layouts of the extended header (rule 3.6). Whoever reads or writes names one.
 pub enum Layout {
@@ -33,7 +36,7 @@ pub fn layout_of(number: u64) -> Layout
 
 // What the reader makes of the front of a stream: the number (rule 5.1), 0 for accepted, and the step (rule 5.3), which is the length of
 // the message, but 0 where the number is 1, 2 or 3. Then the message's fields; the places of its parts are relative to the slice that was
-// read. All of these are 0 where refused.
+// read. All of these are 0 where refused. Last, whether every text in the message is clean (rule 13.2), false where refused.
 pub struct Answer {
     pub number: u8,
     pub step: usize,
@@ -48,6 +51,7 @@ pub struct Answer {
     pub content_len: usize,
     pub metadata_at: usize,
     pub metadata_len: usize,
+    pub clean: bool,
 }
 
 // The fields of a message that have a fixed size, as the writer is given them: V, TIME_STAMP, MSG_ID.
@@ -77,6 +81,7 @@ pub fn refusal(number: u8, step: usize) -> Answer
         content_len: 0,
         metadata_at: 0,
         metadata_len: 0,
+        clean: false,
     }
 }
 
@@ -93,49 +98,57 @@ fn version_number(version: u16) -> u8
     4
 }
 
-// Check 7, and those of the content.
-fn contents_number(type_text: &[u8], content: &[u8], metadata: &[u8]) -> u8
-    ensures { λ r. ⌜ r ≡ orElse (metadataFault (now (metadata .entry))) (contentFault deepest (now («type_text» .entry)) (now (content .entry))) ⌝ }
+// Check 7, and those of the content, with its mark.
+fn contents_check(type_text: &[u8], content: &[u8], metadata: &[u8]) -> Checked
+    ensures { λ r. ⌜ r ≡ checked (orElse (metadataFault (now (metadata .entry))) (contentFault deepest (now («type_text» .entry)) (now (content .entry)))) (contentClean deepest (now («type_text» .entry)) (now (content .entry))) ⌝ }
 {
     let fault = metadata::metadata_number(metadata);
     if fault != 0 {
-        return fault;
+        return marked(fault, false);
     }
-    content::content_number(type_text, content)
+    content::content_check(type_text, content)
 }
 
-// Checks 4 to 11, of a message that is there whole.
-fn body_checks(layout: Layout, version: u16, crc: u64, type_text: &[u8], body: &[u8]) -> u8
-    ensures { λ r. ⌜ r ≡ bodyChecks layout version crc (now («type_text» .entry)) (now (body .entry)) ⌝ }
+// The number alone.
+fn contents_number(type_text: &[u8], content: &[u8], metadata: &[u8]) -> u8
+    ensures { λ r. ⌜ r ≡ orElse (metadataFault (now (metadata .entry))) (contentFault deepest (now («type_text» .entry)) (now (content .entry))) ⌝ }
+{
+    let answer = contents_check(type_text, content, metadata);
+    answer.number
+}
+
+// Checks 4 to 11, of a message that is there whole, with its content's mark.
+fn body_checks(layout: Layout, version: u16, crc: u64, type_text: &[u8], body: &[u8]) -> Checked
+    ensures { λ r. ⌜ r ≡ bodyChecked layout version crc (now («type_text» .entry)) (now (body .entry)) ⌝ }
 {
     let fault = version_number(version);
     if fault != 0 {
-        return fault;
+        return marked(fault, false);
     }
     if crc64::crc64(body) != crc {
-        return 5;
+        return marked(5, false);
     }
     let fault = body::body_number(layout, version, body);
     if fault != 0 {
-        return fault;
+        return marked(fault, false);
     }
     let places = body::sections(layout, version, body);
     let metadata = fields::slice::part(body, places.metadata_at, places.metadata_len);
     let fault = body::sizes_number(layout, version, body, metadata);
     if fault != 0 {
-        return fault;
+        return marked(fault, false);
     }
-    contents_number(
+    contents_check(
         type_text,
         fields::slice::part(body, places.content_at, places.content_len),
         metadata,
     )
 }
 
-// The answer to an accepted message.
-fn accept(layout: Layout, header: header::HeaderRead, body: &[u8]) -> Answer
+// The answer to an accepted message with this mark.
+fn accept(layout: Layout, header: header::HeaderRead, body: &[u8], clean: bool) -> Answer
     requires { ⌜ (bodyFault layout (header .version) (now body) ≡ 0) × (header .«body_size» ≤ limit) × (length (now body) ≤ limit) ⌝ }
-    ensures { λ r. ⌜ r ≡ accepted header (placesOf layout (header .version) (now (body .entry))) ⌝ }
+    ensures { λ r. ⌜ r ≡ accepted header (placesOf layout (header .version) (now (body .entry))) clean ⌝ }
 {
     let places = body::sections(layout, header.version, body);
     Answer {
@@ -152,6 +165,7 @@ fn accept(layout: Layout, header: header::HeaderRead, body: &[u8]) -> Answer
         content_len: places.content_len,
         metadata_at: 58 + places.metadata_at,
         metadata_len: places.metadata_len,
+        clean,
     }
 }
 
@@ -169,17 +183,22 @@ pub fn read(layout: Layout, stream: &[u8]) -> Answer
         return refusal(1, 0);
     }
     let body = fields::slice::part(stream, 58, size);
-    let fault = body_checks(
+    let checks = body_checks(
         layout,
         header.version,
         header.crc,
         header::type_text(stream),
         body,
     );
-    if fault != 0 {
-        return refusal(fault, 58 + size);
+    if checks.number != 0 {
+        return refusal(checks.number, 58 + size);
     }
-    accept(layout, header, body)
+    accept(
+        layout,
+        header,
+        body,
+        fields::both(header.clean, checks.clean),
+    )
 }
 
 // ---- the parts that an answer names. They are cut from the stream, which is not read again; for an answer to another stream they hold as
@@ -269,7 +288,7 @@ fn write_checks(
     sections_checks(layout, fixed, type_text, further, content, metadata)
 }
 
-// Writes a message that passed the checks into a buffer with room for its body of so many bytes.
+// Writes a message that passed the checks, its content cleaned, into a buffer with room for its body of so many bytes.
 fn put_message(
     layout: Layout,
     fixed: FixedFields,
@@ -282,13 +301,14 @@ fn put_message(
     out: &mut [u8],
 )
     requires { ⌜ (writeChecks layout (given fixed (now «type_text») (now «device_name») (now further) (now content) (now metadata)) ≡ 0) × (size ≡ length (bodyGiven layout (given fixed (now «type_text») (now «device_name») (now further) (now content) (now metadata)))) × (58 + size ≤ length (now out)) ⌝ }
-    ensures { λ _. ⌜ now (out .exit) ≡ encodeParts layout (given fixed (now («type_text» .entry)) (now («device_name» .entry)) (now (further .entry)) (now (content .entry)) (now (metadata .entry))) ++ drop (58 + size) (now (out .entry)) ⌝ }
+    ensures { λ _. ⌜ now (out .exit) ≡ encodeParts layout (cleanParts (given fixed (now («type_text» .entry)) (now («device_name» .entry)) (now (further .entry)) (now (content .entry)) (now (metadata .entry)))) ++ drop (58 + size) (now (out .entry)) ⌝ }
 {
     body::put_body(
         layout,
         fixed.version,
         fixed.id,
         further,
+        type_text,
         content,
         metadata,
         &mut out[58..58 + size],
@@ -303,7 +323,7 @@ fn put_message(
     header::write_header(header, type_text, device_name, out);
 }
 
-// Writes a message that passed the checks, if the buffer has room for it.
+// Writes a message that passed the checks, its content cleaned, if the buffer has room for it.
 fn write_checked(
     layout: Layout,
     fixed: FixedFields,
@@ -336,7 +356,8 @@ fn write_checked(
     Written::Wrote(58 + size)
 }
 
-// Writes a message to the front of a buffer, in this layout. The metadata is given as the bytes of its section.
+// Writes a message to the front of a buffer, in this layout, its content cleaned (rule 13.6). The metadata is given as the bytes of its
+// section.
 pub fn write(
     layout: Layout,
     fixed: FixedFields,

@@ -8,11 +8,14 @@ use native.Mathlib.Omega.{arith}
 use lib.Dec.{eqb, eqb·suc-zero}
 use lib.ListN.{replicate}
 use Rattle.fields.specs.Bytes.{same, sized}
-use Rattle.fields.specs.Lists.{all, any}
+use Rattle.fields.specs.Lists.{all, any, flat}
+use Rattle.fields.specs.Numbers.{beBytes}
 use Rattle.fields.specs.Text.{isText}
 use Rattle.fields.specs.Checks.{orElse}
 use Rattle.content.specs.Kinds.{transformText, positionText}
 use Rattle.fields.proofs.Laws.Checks.{else-zero}
+use Rattle.pose.specs.Words.{wordBytes}
+use Rattle.content.specs.Tree as tree
 use Rattle.content.specs.Check.{deepest}
 use Rattle.message.specs.declared.Layout.{Layout}
 use Rattle.message.specs.declared.Layout.the-variants.{New, Old}
@@ -22,7 +25,9 @@ use Rattle.message.specs.Check as read
 use Rattle.message.specs.Demand2.{Begins}
 use Rattle.message.specs.declared.Answer.{Answer as Read}
 use Rattle.message.specs.Samples.{armText, armMessage, armBytes, armAnswer, armContent, zeroBytes, zeroAnswer, positionBytes, positionAnswer, pointBytes, pointAnswer, otherThan}
+use Rattle.message.specs.ReceivedSamples.{trackerMessage}
 use Rattle.message.proofs.Samples.{samples, by-layout}
+use Rattle.message.proofs.ReceivedSamples.{received-samples}
 use Rattle.message.proofs.Laws.Messages.{demand-2}
 use Rattle.history.specs.Calls.{add, linkUp, linkDown, message, look, green, grey, Answer, refused, accepted, empty, shown}
 use Rattle.history.specs.Summary.{Summary, isAllowed, allowedFault, clockFault, numberOn}
@@ -115,6 +120,13 @@ linked-counts l = record { in-time = refl; is-up = refl; has-arm = refl }
 
 arm-from : (l : Layout) → FromArm l armMessage
 arm-from l = record { well = samples .arm l .well; is-transform = refl; is-arm = refl }
+
+tracker-from : (l : Layout) → FromArm l trackerMessage
+tracker-from l = record { well = received-samples .tracker l .well; is-transform = refl; is-arm = refl }
+
+sevens : valueFor trackerMessage (armTile 500) ≡ replicate 48 7
+unfolding tree.encode wordBytes flat beBytes
+sevens = refl
 
 arm-panel : panelAfter armBytesCalls ≡ countedPanel (linkedPanel New) 1200 (valueOf armContent)
 unfolding panelAfter
@@ -258,6 +270,11 @@ examples =
       arm = arm-from;
       arm-bytes = λ l. samples .arm l .bytes;
       arm-p12 = ap (λ (p : Panel). answerTo (panelNext p (linkUp New 1400)) (look 0 1400)) arm-panel;
+      tracker = tracker-from;
+      tracker-green = λ l.
+          ap (λ (s : List ℕ). answerTo (panelNext (linkedPanel l) (message 1200 s)) (look 0 1700)) (sym (received-samples .tracker l .bytes))
+          ∙ shown-after (linkedPanel l) trackerMessage (tracker-from l) 1200 (linked-counts l) (λ p. p) 0 1700 (shown green 500) refl
+          ∙ ap (shown green 500) sevens;
       counted-for = ap (onPanel (0 ∷ 1 ∷ 2 ∷ 3 ∷ []) 1700) one-panel;
       counted-older = ap (onPanel (0 ∷ 1 ∷ 2 ∷ []) 1701) one-panel;
       counted-long-ago = ap (λ (p : Panel). onPanel (1 ∷ []) 4294968497 p ∷ onPanel (1 ∷ []) 0xFFFFFFFFFFFFFFFF p ∷ []) one-panel;

@@ -11,6 +11,7 @@ use Rattle.message.specs.declared.Layout.{Layout}
 use Rattle.message.specs.declared.Layout.the-variants.{New}
 use Rattle.message.specs.Message.{Message, WellFormed, encode}
 use Rattle.message.specs.Samples.{armText, armMessage, armBytes, armContent, zeroBytes, positionBytes, pointText, pointBytes, pointContent, otherThan}
+use Rattle.message.specs.ReceivedSamples.{trackerMessage, trackerBytes}
 use Rattle.history.specs.Books.{armBytesCalls, damagedBytes}
 use Rattle.history.specs.Examples.{nameOf}
 use Rattle.history.specs.Calls.{Call, add, linkUp, linkDown, message, look, Entry, green, grey, Answer, refused, accepted, added, empty, shown}
@@ -157,6 +158,10 @@ pub record Examples : Type 0 where
   pub arm : (l : Layout) → FromArm l armMessage
   pub arm-bytes : (l : Layout) → encode l armMessage ≡ armBytes
   pub arm-p12 : looked (armBytesCalls ++ (linkUp New 1400 ∷ [])) 1400 ≡ shown grey 200 armContent
+  -- such a message need not be clean: a tile takes messages by their texts (rule 13.7). P10 of one that is not
+  pub tracker : (l : Layout) → FromArm l trackerMessage
+  pub tracker-green : (l : Layout)
+      → looked (armLinked l ++ (message 1200 (trackerBytes (0 ∷ 0xFF ∷ 0x80 ∷ []) (0 ∷ replicate 16 0x99)) ∷ [])) 1700 ≡ shown green 500 (replicate 48 7)
   -- of three tiles: a message counts for the one of its type and name, by whose hold time it is judged
   pub counted-for : lookedAll oneCounted (0 ∷ 1 ∷ 2 ∷ 3 ∷ []) 1700 ≡ empty ∷ shown green 500 armContent ∷ empty ∷ refused 19 ∷ []
   pub counted-older : lookedAll oneCounted (0 ∷ 1 ∷ 2 ∷ []) 1701 ≡ empty ∷ shown grey 501 armContent ∷ empty ∷ []

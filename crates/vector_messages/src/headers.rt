@@ -1,9 +1,11 @@
 // What the readers of headers answer:
 //
-//   H stream   the header's number and fields, its CRC as 16 hexadecimal digits; the type and the device name, of a refused header too
+//   H stream   the header's number and fields, its CRC as 16 hexadecimal digits, and its mark; the type and the device name, of a refused
+//              header too
 //   s stamp    the seconds and the nanoseconds of a time stamp of eight bytes
 use vector_records::print_bytes;
 use vector_records::print_crc;
+use vector_records::print_mark;
 use vector_records::print_number;
 
 pub fn print_header(stream: &[u8]) {
@@ -15,6 +17,7 @@ pub fn print_header(stream: &[u8]) {
     print_number(read.time_stamp);
     print_number(read.body_size as u64);
     print_crc(read.crc);
+    print_mark(read.clean);
     print_bytes(header::type_text(stream));
     print_bytes(header::device_name(stream));
 }

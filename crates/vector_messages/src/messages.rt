@@ -1,12 +1,14 @@
 // What the reader of messages answers, in both layouts:
 //
-//   R stream            its number and step, the message's fields and the places of its sections; the type, the device name, the
-//                       further bytes and the metadata; the CRC of the content
-//   Q length, patches   for a stream of so many zeros, patched: the number and the step, the places of the content and the metadata
+//   R stream            its number and step, the message's fields, the places of its sections and its mark; the type, the device name,
+//                       the further bytes and the metadata; the CRC of the content
+//   Q length, patches   for a stream of so many zeros, patched: the number and the step, the places of the content and the metadata, the
+//                       mark
 use message::Answer;
 use message::Layout;
 use vector_records::print_bytes;
 use vector_records::print_crc;
+use vector_records::print_mark;
 use vector_records::print_number;
 
 fn print_front(answer: Answer) {
@@ -29,6 +31,7 @@ fn print_places(answer: Answer) {
     print_number(answer.content_len as u64);
     print_number(answer.metadata_at as u64);
     print_number(answer.metadata_len as u64);
+    print_mark(answer.clean);
 }
 
 fn print_parts(stream: &[u8], answer: Answer) {

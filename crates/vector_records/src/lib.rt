@@ -82,6 +82,15 @@ pub fn print_crc(crc: u64) {
     io::print_hex(STDOUT_FILENO, crc, 16);
 }
 
+// A mark, 1 where it is true and 0 where it is not.
+pub fn print_mark(mark: bool) {
+    if mark {
+        print_number(1);
+        return;
+    }
+    print_number(0);
+}
+
 // The answer of a writer: its number, and how many bytes it wrote.
 pub fn print_written(written: Written) {
     print_number(written.number() as u64);

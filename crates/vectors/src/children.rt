@@ -5,19 +5,21 @@
 //   M length, patches, index, name   the same for a content of so many zeros, patched
 //   E site, default, name            the number and the bundle of the child of that name, and its place
 //
-// A count and a place are each a number and then what it goes with. The bytes of a child follow its place.
+// A count and a place are each a number, what it goes with, and the mark. The bytes of a child follow its place.
 use child::EitherPlace;
 use child::Place;
 use child::Source;
 use vector_records::after_field;
 use vector_records::field;
 use vector_records::print_bytes;
+use vector_records::print_mark;
 use vector_records::print_number;
 
 fn print_place(place: Place) {
     print_number(place.number as u64);
     print_number(place.at as u64);
     print_number(place.len as u64);
+    print_mark(place.clean);
 }
 
 fn print_source(source: Source) {
@@ -32,6 +34,7 @@ fn print_count(content: &[u8]) {
     let count = child::child_count(content);
     print_number(count.number as u64);
     print_number(count.count as u64);
+    print_mark(count.clean);
 }
 
 fn print_child(content: &[u8], index: usize) {
@@ -73,4 +76,5 @@ fn print_either_place(place: EitherPlace) {
     print_number(place.number as u64);
     print_number(place.at as u64);
     print_number(place.len as u64);
+    print_mark(place.clean);
 }

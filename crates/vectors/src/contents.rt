@@ -3,11 +3,14 @@
 //   T content                 a TRANSFORM's number, and what its reader gives: number, columns, translation
 //   P content                 a POSITION's number, and what its reader gives: number, count, seven words
 //   I content                 an IMAGE's number, and what its reader gives: number, header; its pixels
-//   C type, content           the number of the content in a message, in a child, and as that of a BIND
-//   Z type, length, patches   the number of a content of so many zeros, patched
+//   C type, content           the number and the mark of the content in a message, its number in a child, and its number and mark as that
+//                             of a BIND
+//   Z type, length, patches   the number and the mark of a content of so many zeros, patched
+use fields::Checked;
 use image::ImageHeader;
 use pose::Transform;
 use vector_records::print_bytes;
+use vector_records::print_mark;
 use vector_records::print_number;
 use vector_records::print_word;
 
@@ -82,15 +85,20 @@ pub fn print_image(content: &[u8]) {
     print_bytes(image::pixels(content));
 }
 
+fn print_checked(checked: Checked) {
+    print_number(checked.number as u64);
+    print_mark(checked.clean);
+}
+
 pub fn print_numbers(type_text: &[u8], content: &[u8]) {
-    print_number(content::content_number(type_text, content) as u64);
+    print_checked(content::content_check(type_text, content));
     print_number(content::nested_number(type_text, content) as u64);
-    print_number(content::bind_number(content) as u64);
+    print_checked(content::bind_check(content));
 }
 
 pub fn print_patched(type_text: &[u8], length: &[u8], patches: &[u8]) {
     let mut zeros = vector_records::buffer(0);
     vector_records::patch(patches, &mut zeros);
     let content = fields::slice::first(&zeros, fields::number::be32(length, 0) as usize);
-    print_number(content::content_number(type_text, content) as u64);
+    print_checked(content::content_check(type_text, content));
 }

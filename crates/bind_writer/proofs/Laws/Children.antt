@@ -1,23 +1,26 @@
 -- Children as three lists, and the loops over them.
-use Prim.Native.Nat.{ℕ, _+_, _*_, _<_}
+use Prim.Native.Nat.{ℕ, zero, suc, _+_, _-_, _*_, _%_, _<_}
 use mathlib.Core.Path.{_≡_, refl, sym, ap, ap₂, _∙_}
 use mathlib.Core.Bool.{Bool, true, false, _&&_}
 use mathlib.Core.List.{List, [], _∷_, _++_, map}
 use native.Mathlib.Omega.{arith}
 use denote.Ref.{RefT, now}
-use lib.ListN.{length, getD, take, drop}
+use lib.ListN.{length, getD, take, drop, replicate, length-append}
 use lib.Seq.{sets, length-take-le}
 use Rattle.fields.specs.Numbers.{beBytes}
 use Rattle.fields.specs.Text.{isText, textBytes}
 use Rattle.fields.specs.Lists.{flat, all}
-use Rattle.fields.proofs.Laws.Lists.{all-step, all-stop}
+use Rattle.fields.proofs.Laws.Lists.{all-step, all-stop, length-flat}
+use Rattle.fields.proofs.Laws.Numbers.{length-beBytes}
+use Rattle.fields.proofs.Laws.Text.{length-textBytes}
 use Rattle.fields.proofs.Laws.Stores.{sets-flat-next}
-use Rattle.bundle.specs.Children.{Child, childHeader}
-use Rattle.bundle.proofs.Laws.Written.{length-headers}
+use Rattle.bundle.specs.Children.{Child, padded}
+use Rattle.bundle.proofs.Laws.Children.{length-padded}
+use Rattle.cleaning.proofs.Laws.Lengths.{length-clean}
 use Rattle.content.specs.Contents.{firstFault}
 use Rattle.content.proofs.Laws.Faults.{noChild, first-stop, first-next}
 use Rattle.bind_writer.specs.Lists.{children, typesOf, namesOf, contentsOf, SameCount}
-use Rattle.bind_writer.specs.Writer.{typeOk, textsOk, childFault}
+use Rattle.bind_writer.specs.Writer.{typeOk, textsOk, childFault, cleanContent, plainHeader, cleanData}
 use Rattle.bind_writer.proofs.Laws.Slices.{none, length-given, given-at}
 
 -- ---- the lists of the children that three lists give, and the children of their own lists
@@ -37,10 +40,42 @@ lists-of (t ∷ ts) (n ∷ ns) (d ∷ ds) h =
       ap {B = List (List ℕ)} (λ l. d ∷ l) (r .2),
     )
 
-pub children-of : (cs : List Child) → children (typesOf cs) (namesOf cs) (contentsOf cs) ≡ cs
+-- a child with zeros after its type
+abbrev pub plain : Child → Child
+plain c = record { typeText = c .typeText; rest = replicate (12 - length (c .typeText)) 0; name = c .name; content = c .content }
+
+pub children-of : (cs : List Child) → children (typesOf cs) (namesOf cs) (contentsOf cs) ≡ map plain cs
 unfolding children
 children-of [] = refl
-children-of (c ∷ cs) = ap {B = List Child} (λ l. c ∷ l) (children-of cs)
+children-of (c ∷ cs) = ap {B = List Child} (λ l. plain c ∷ l) (children-of cs)
+
+-- ---- lengths of what is written
+
+pub length-plain : (cs : List Child) → length (flat plainHeader cs) ≡ 20 * length cs
+length-plain cs =
+    length-flat plainHeader 20
+    (λ c.
+    length-append (textBytes 12 (c .typeText)) (beBytes 8 (length (c .content)))
+    ∙ ap₂ (λ (m n : ℕ). m + n) (length-textBytes 12 (c .typeText)) (length-beBytes 8 (length (c .content))))
+    cs
+
+pub length-content : (t d : List ℕ) → length (cleanContent t d) ≡ length d
+length-content t d = length-clean _ t d
+
+length-data : (c : Child) → length (cleanData c) ≡ length (padded (c .content))
+length-data c =
+    length-padded (cleanContent (c .typeText) (c .content))
+    ∙ ap (λ (n : ℕ). n + n % 2) (length-content (c .typeText) (c .content))
+    ∙ sym (length-padded (c .content))
+
+pub length-datas : (i : ℕ) (cs : List Child) → length (flat cleanData (take i cs)) ≡ length (flat padded (take i (contentsOf cs)))
+unfolding flat
+length-datas zero cs = refl
+length-datas (suc i) [] = refl
+length-datas (suc i) (c ∷ cs) =
+    length-append (cleanData c) (flat cleanData (take i cs))
+    ∙ ap₂ (λ (m n : ℕ). m + n) (length-data c) (length-datas i cs)
+    ∙ sym (length-append (padded (c .content)) (flat padded (take i (contentsOf cs))))
 
 -- ---- a loop over the children by two of their lists
 
@@ -74,9 +109,9 @@ module _ (ts : List (RefT (List ℕ))) (i : ℕ) (h : i < length ts) (cs : List 
     content-at : getD cs i noChild .content ≡ now (getD ds i none)
     content-at = given-at (λ c. c .content) cs ds q i noChild refl
 
-    module _ (r : ℕ) (e : r ≡ childFault (record { typeText = now (getD ts i none); name = []; content = now (getD ds i none) })) where
+    module _ (r : ℕ) (e : r ≡ childFault (record { typeText = now (getD ts i none); rest = []; name = []; content = now (getD ds i none) })) where
       fault-at : childFault (getD cs i noChild) ≡ r
-      fault-at = ap₂ (λ (t d : List ℕ). childFault (record { typeText = t; name = []; content = d })) type-at content-at ∙ sym e
+      fault-at = ap₂ (λ (t d : List ℕ). childFault (record { typeText = t; rest = []; name = []; content = d })) type-at content-at ∙ sym e
 
       pub faults-stop : (r ≡ 0 → ⊥) → firstFault childFault (drop i cs) ≡ r
       faults-stop n = first-stop childFault cs i below (λ z. n (sym fault-at ∙ z)) ∙ fault-at
@@ -85,11 +120,21 @@ module _ (ts : List (RefT (List ℕ))) (i : ℕ) (h : i < length ts) (cs : List 
       faults-next z = first-next childFault cs i below (fault-at ∙ z)
 
     pub headers-next : (out : List ℕ)
-        → sets (sets out 2 (flat childHeader (take i cs))) (2 + 20 * i) (textBytes 12 (now (getD ts i none)) ++ beBytes 8 (length (now (getD ds i none))))
-        ≡ sets out 2 (flat childHeader (take (i + 1) cs))
-    unfolding childHeader
+        → sets (sets out 2 (flat plainHeader (take i cs))) (2 + 20 * i) (textBytes 12 (now (getD ts i none)) ++ beBytes 8 (length (now (getD ds i none))))
+        ≡ sets out 2 (flat plainHeader (take (i + 1) cs))
     headers-next out =
-        let k : 2 + 20 * i ≡ 2 + length (flat childHeader (take i cs)) = omega (arith, length-headers (take i cs), length-take-le i cs (omega (arith, below))) in
-        ap₂ (λ (n : ℕ) (x : List ℕ). sets (sets out 2 (flat childHeader (take i cs))) n x) k
+        let k : 2 + 20 * i ≡ 2 + length (flat plainHeader (take i cs)) = omega (arith, length-plain (take i cs), length-take-le i cs (omega (arith, below))) in
+        ap₂ (λ (n : ℕ) (x : List ℕ). sets (sets out 2 (flat plainHeader (take i cs))) n x) k
         (ap₂ (λ (t d : List ℕ). textBytes 12 t ++ beBytes 8 (length d)) (sym type-at) (sym content-at))
-        ∙ sets-flat-next childHeader out 2 cs i noChild below
+        ∙ sets-flat-next plainHeader out 2 cs i noChild below
+
+    -- one content more
+    pub datas-next : (out : List ℕ) (at : ℕ)
+        → sets (sets out at (flat cleanData (take i cs))) (at + length (flat padded (take i (map now ds)))) (padded (cleanContent (now (getD ts i none)) (now (getD ds i none))))
+        ≡ sets out at (flat cleanData (take (i + 1) cs))
+    datas-next out at =
+        let k : length (flat padded (take i (map now ds))) ≡ length (flat cleanData (take i cs)) =
+        ap (λ (l : List (List ℕ)). length (flat padded (take i l))) (sym q) ∙ sym (length-datas i cs) in
+        ap₂ (λ (n : ℕ) (x : List ℕ). sets (sets out at (flat cleanData (take i cs))) (at + n) x) k
+        (ap₂ (λ (t d : List ℕ). padded (cleanContent t d)) (sym type-at) (sym content-at))
+        ∙ sets-flat-next cleanData out at cs i noChild below

@@ -10,8 +10,9 @@ use borrow.Author.Tests.{leb-true}
 use borrow.Author.Needs.{needs}
 use Rattle.fields.specs.Numbers.{beBytes}
 use Rattle.fields.specs.Lists.{flat}
-use Rattle.bundle.specs.Children.{padded, nameTable, childHeader, ended}
+use Rattle.bundle.specs.Children.{padded, nameTable, ended}
 use Rattle.bind_writer.specs.Lists.{children}
+use Rattle.bind_writer.specs.Writer.{plainHeader, cleanData}
 use Rattle.bind_writer.proofs.Laws.Slices.{count-same}
 use Rattle.bind_writer.proofs.Laws.Children.{lists-of}
 use Rattle.bind_writer.proofs.Laws.Layout.{lists-passed}
@@ -62,7 +63,7 @@ put-contents-requires c κs =
     let ds = map now (a .contents .now) in
     let g = lists-passed ts ns ds (c .before .before .before .before .before .before .before .before .before .before .before .before .before .before .pre .0) in
     let e = length-given ts ns ds (g .count) in
-    omega (arith, c .before .before .before .before .before .before .before .before .before .before .before .before .before .before .pre .1, c .before .before .before .put-table .ensures .0, length-map (a .types .now) now)
+    (count-same (a .types .now) (a .names .now) (a .contents .now) (g .count) .1, omega (arith, c .before .before .before .before .before .before .before .before .before .before .before .before .before .before .pre .1, c .before .before .before .put-table .ensures .0, length-map (a .types .now) now))
 
 same-length : tie.Need-same-length
 same-length c = search needs
@@ -84,9 +85,9 @@ returns c =
     let x = beBytes 2 (length (padded (flat ended ns))) ++ padded (flat ended ns) in
     let end : table .result ≡ 2 + 20 * length ts + (2 + length (padded (flat ended ns))) = omega (arith, table .ensures .0) in (
       omega (arith, e, body .0, end),
-      body .1
-          ∙ ap (λ (l : List ℕ). sets l (table .result) (flat padded ds)) (table .ensures .1 ∙ ap (λ (l : List ℕ). sets l (2 + 20 * length (a .types .now)) x) (heads ∙ ap (λ (l : List ℕ). sets l 2 (flat childHeader cs)) (c .before .before .before .before .before .before .before .before .before .before .before .before .before .before .put16 .ensures)))
-          ∙ ap (λ (m : ℕ). sets (sets (sets (sets (a .out .now) 0 (beBytes 2 m)) 2 (flat childHeader cs)) (2 + 20 * m) x) (table .result) (flat padded ds)) (sym n)
+      body .1 cs (p .0) (p .2)
+          ∙ ap (λ (l : List ℕ). sets l (table .result) (flat cleanData cs)) (table .ensures .1 ∙ ap (λ (l : List ℕ). sets l (2 + 20 * length (a .types .now)) x) (heads ∙ ap (λ (l : List ℕ). sets l 2 (flat plainHeader cs)) (c .before .before .before .before .before .before .before .before .before .before .before .before .before .before .put16 .ensures)))
+          ∙ ap (λ (m : ℕ). sets (sets (sets (sets (a .out .now) 0 (beBytes 2 m)) 2 (flat plainHeader cs)) (2 + 20 * m) x) (table .result) (flat cleanData cs)) (sym n)
           ∙ encode-stores ts ns ds (g .count) (a .out .now) (table .result) end,
     )
 

@@ -1,4 +1,4 @@
--- `bind_writer::put_content` meets its contract: two runs of bytes are one.
+-- `bind_writer::put_content` meets its contract: two runs of bytes are one, and cleaning keeps the length.
 use Prim.Native.Nat.{ℕ, _+_, _%_}
 use mathlib.Core.Path.{ap, sym, _∙_}
 use mathlib.Core.List.{List}
@@ -9,11 +9,14 @@ use borrow.Author.Needs.{needs}
 use Rattle.fields.proofs.Laws.Stores.{sets-append}
 use Rattle.bundle.specs.Children.{padded}
 use Rattle.bundle.proofs.Laws.Children.{length-padded}
+use Rattle.cleaning.proofs.Laws.Walk.{put-left}
+use Rattle.bind_writer.specs.Writer.{cleanContent}
+use Rattle.bind_writer.proofs.Laws.Children.{length-content}
 use Rattle.bind_writer.proofs.put_content.Statement.{statement}
 use Rattle.bind_writer.proofs.put_content.Tie as tie
 
-put-requires : tie.Need-put-requires
-put-requires c κs = search needs
+put-clean-requires : tie.Need-put-clean-requires
+put-clean-requires c κs = search needs
 
 add-put-pad : tie.Need-add-put-pad
 add-put-pad c = search needs
@@ -33,20 +36,26 @@ same-length c = search needs
 returns : tie.Need-returns
 unfolding padded
 returns c =
-    let a = c .before .before .before .before .before .before .before .before .before .before .args in
+    let a = c .before .before .before .before .before .before .before .before .before .before .before .args in
+    let t = a .type-text .now in
     let x = a .content .now in
-    let p = replicate {A = ℕ} (length x % 2) 0 in (
-      omega (arith, length-padded x),
+    let y = cleanContent t x in
+    let n = length-content t x in
+    let p = replicate {A = ℕ} (length x % 2) 0 in
+    let l = length-padded x in
+    let clean = put-left _ t x (a .at) _ _ (c .before .before .before .before .before .before .put-clean .ensures) (omega (arith, l, c .before .before .before .before .before .before .before .before .before .before .before .pre)) in (
+      omega (arith, l),
       c .before .before .put-pad .ensures
-          ∙ ap (λ (l : List ℕ). sets l (a .at + length x) p) (c .before .before .before .before .before .before .put .ensures)
-          ∙ sym (sets-append (a .out .now) (a .at) x p),
+          ∙ ap (λ (r : List ℕ). sets r (a .at + length x) p) clean
+          ∙ ap (λ (k : ℕ). sets (sets (a .out .now) (a .at) y) (a .at + k) (replicate (k % 2) 0)) (sym n)
+          ∙ sym (sets-append (a .out .now) (a .at) y (replicate (length y % 2) 0)),
     )
 
 pub put-content-spec : {M : Type 1} → statement M
 put-content-spec =
     tie.close
     (tie.spec
-    put-requires
+    put-clean-requires
     add-put-pad
     put-pad-requires
     add-result

@@ -11,7 +11,7 @@ use Rattle.fields.specs.Numbers.{beBytes}
 use Rattle.fields.specs.Text.{textBytes}
 use Rattle.fields.specs.Lists.{flat}
 use Rattle.fields.proofs.Laws.Lists.{flat-none, flat-all}
-use Rattle.bundle.specs.Children.{childHeader}
+use Rattle.bind_writer.specs.Writer.{plainHeader}
 use Rattle.bind_writer.specs.Lists.{WithContents}
 use Rattle.bind_writer.proofs.Laws.Slices.{none, length-given}
 use Rattle.bind_writer.proofs.Laws.Children.{headers-next}
@@ -22,13 +22,13 @@ abbrev Inv-loop : tie.InvT-loop
 Inv-loop types contents out₀ i₀ out i =
     (i ≤ length types)
     × (length out ≡ length out₀)
-    × WithContents (map now types) (map now contents) (λ cs. out ≡ sets out₀ 2 (flat childHeader (take i cs)))
+    × WithContents (map now types) (map now contents) (λ cs. out ≡ sets out₀ 2 (flat plainHeader (take i cs)))
 
 abbrev μ-loop : tie.MeasureT-loop
 μ-loop types contents out₀ i₀ out i = length types - i
 
 loop-holds : tie.Need-loop-holds Inv-loop μ-loop
-loop-holds c = (omega arith, refl, λ cs p q. ap (sets (c .before .args .out .now) 2) (sym (flat-none childHeader cs)))
+loop-holds c = (omega arith, refl, λ cs p q. ap (sets (c .before .args .out .now) 2) (sym (flat-none plainHeader cs)))
 
 mul-type-text : tie.Need-mul-type-text Inv-loop μ-loop
 mul-type-text c = search needs
@@ -76,7 +76,7 @@ same-length c = search needs
 returns : tie.Need-returns Inv-loop μ-loop
 returns c =
     let l = c .before .loop in
-    λ cs p q. l .inv .2 cs p q ∙ ap (sets (c .before .before .before .args .out .now) 2) (flat-all childHeader cs (l .i) (omega (arith, length-given (λ c. c .typeText) cs (c .before .before .before .args .types .now) p)))
+    λ cs p q. l .inv .2 cs p q ∙ ap (sets (c .before .before .before .args .out .now) 2) (flat-all plainHeader cs (l .i) (omega (arith, length-given (λ c. c .typeText) cs (c .before .before .before .args .types .now) p)))
 
 pub put-headers-spec : {M : Type 1} → statement M
 put-headers-spec =

@@ -1,5 +1,6 @@
 -- `bind_writer::write_bind` meets its contract: the laws of a writer's answer and buffer, refused and not.
-use mathlib.Core.Path.{_≡_, ap, sym, _∙_}
+use Prim.Native.Nat.{ℕ, _≤_}
+use mathlib.Core.Path.{_≡_, ap, sym, subst, _∙_}
 use mathlib.Core.List.{map}
 use denote.Ref.{now}
 use lib.ListN.{length}
@@ -7,6 +8,8 @@ use borrow.Author.Needs.{needs}
 use Rattle.fields.specs.declared.Written.the-variants.{Wrote, Refused}
 use Rattle.fields.proofs.Laws.Answer.{written-wrote, written-refused, out-refused, out-sets}
 use Rattle.bind_writer.specs.Writer.{writeFault, bindWritten, bindOut}
+use Rattle.bind_writer.specs.Lists.{children}
+use Rattle.bind_writer.proofs.Laws.Encoding.{length-cleaned}
 use Rattle.bind_writer.proofs.Laws.Faults.{passed, ready}
 use Rattle.bind_writer.proofs.write_bind.Statement.{statement}
 use Rattle.bind_writer.proofs.write_bind.Tie as tie
@@ -43,7 +46,7 @@ returns-2 c =
     let z : writeFault ts ns ds (length out) ≡ 0 = sym (c .before .before .before .before .before .write-fault .ensures) ∙ c .before .before .before .before .if1 .left in
     let fits = passed ts ns ds (length out) z .fits in (
       ap Wrote (c .before .before .put-children .ensures .0) ∙ sym (written-wrote (writeFault ts ns ds (length out)) _ z),
-      c .before .before .put-children .ensures .1 ∙ out-sets (writeFault ts ns ds (length out)) _ out z fits,
+      c .before .before .put-children .ensures .1 ∙ out-sets (writeFault ts ns ds (length out)) _ out z (subst (λ (n : ℕ). n ≤ length out) (sym (length-cleaned (children ts ns ds))) fits),
     )
 
 pub write-bind-spec : {M : Type 1} → statement M

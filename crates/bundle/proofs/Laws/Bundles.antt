@@ -9,6 +9,7 @@ use Rattle.bundle.specs.Layout.{layoutOk, layoutFault}
 use Rattle.bundle.specs.Bundles.{IsBundle, Bundles}
 use Rattle.bundle.proofs.Laws.Children.{childrenOf}
 use Rattle.bundle.proofs.Laws.Written.{layout-written, children-written}
+use Rattle.bundle.proofs.Laws.Marks.{layout-no-mark, layout-clean-to, layout-clean-from}
 use Rattle.bundle.proofs.Laws.Read.{encode-read, well-children}
 
 bundle-accepted : (s : List ℕ) → Bytes s → layoutFault s ≡ 0 → IsBundle s
@@ -28,4 +29,6 @@ bundles =
       well-accepted = layout-written;
       refused = bundle-refused;
       unique = bundle-unique;
+      no-mark = layout-no-mark;
+      mark = λ cs w. (layout-clean-to cs w, layout-clean-from cs w);
     }

@@ -1,6 +1,6 @@
 -- One child: its header, its name and its data, each in front of further bytes. And the children that a BIND content holds, by a walk
 -- down its headers, its name table and its data.
-use mathlib.Core.Path.{_≡_, refl, ap, ap₂, _∙_}
+use mathlib.Core.Path.{_≡_, refl, sym, ap, ap₂, _∙_}
 use mathlib.Core.Bool.{true}
 use mathlib.Core.List.{List, [], _∷_, _++_, append-assoc}
 use Prim.Native.Nat.{ℕ, zero, suc, _+_, _%_, _≤_}
@@ -11,19 +11,21 @@ use borrow.Author.Tests.{le-leb}
 use Rattle.fields.specs.Bytes.{Bytes}
 use Rattle.fields.specs.Lists.{Each}
 use Rattle.fields.specs.Numbers.{beVal, beBytes}
-use Rattle.fields.specs.Text.{textOf, pastText, allZero, fieldOk, textBytes}
+use Rattle.fields.specs.Text.{textOf, pastText, allZero, textOk, fieldOk}
+use Rattle.fields.specs.Received.{restOf, fieldBytes}
 use Rattle.fields.proofs.Laws.Bytes.{bytes-take, bytes-drop}
 use Rattle.fields.proofs.Laws.Checks.{and-join}
 use Rattle.fields.proofs.Laws.Numbers.{length-beBytes, beVal-beBytes}
-use Rattle.fields.proofs.Laws.Text.{length-textBytes, textOf-textBytes, fieldOk-textBytes, text-ended, all-zeros}
-use Rattle.bundle.specs.Children.{Child, padded, childHeader, childName, WellChild}
+use Rattle.fields.proofs.Laws.Text.{text-ended, all-zeros}
+use Rattle.fields.proofs.Laws.Received.{length-fieldBytes, textOk-field, textOf-field, restOf-field, fieldOk-to, fieldOk-from}
+use Rattle.bundle.specs.Children.{Child, padded, childHeader, childName, WellChild, CleanChild}
 use Rattle.bundle.specs.Layout.{count, headers, tableOf, dataOf, typeOf, sizeOf, afterBlock, padOk, blockOk}
 
 -- the children of a content
 unfoldable pub childrenFrom : ℕ → List ℕ → List ℕ → List ℕ → List Child
 childrenFrom zero h t d = []
 childrenFrom (suc k) h t d =
-    record { typeText = typeOf h; name = textOf t; content = take (sizeOf h) d }
+    record { typeText = typeOf h; rest = restOf (take 12 h); name = textOf t; content = take (sizeOf h) d }
     ∷ childrenFrom k (drop 20 h) (pastText t) (afterBlock (sizeOf h) d)
 
 abbrev pub childrenOf : List ℕ → List Child
@@ -37,34 +39,46 @@ length-childrenFrom (suc k) h t d = ap suc (length-childrenFrom k (drop 20 h) (p
 pub length-childHeader : (c : Child) → length (childHeader c) ≡ 20
 unfolding childHeader
 length-childHeader c =
-    length-append (textBytes 12 (c .typeText)) (beBytes 8 (length (c .content)))
-    ∙ ap₂ (λ (m n : ℕ). m + n) (length-textBytes 12 (c .typeText)) (length-beBytes 8 (length (c .content)))
+    length-append (fieldBytes 12 (c .typeText) (c .rest)) (beBytes 8 (length (c .content)))
+    ∙ ap₂ (λ (m n : ℕ). m + n) (length-fieldBytes 12 (c .typeText) (c .rest)) (length-beBytes 8 (length (c .content)))
 
 -- a header, and further bytes r
 module _ (c : Child) (r : List ℕ) where
-  header-front : childHeader c ++ r ≡ textBytes 12 (c .typeText) ++ (beBytes 8 (length (c .content)) ++ r)
+  header-front : childHeader c ++ r ≡ fieldBytes 12 (c .typeText) (c .rest) ++ (beBytes 8 (length (c .content)) ++ r)
   unfolding childHeader
-  header-front = append-assoc (textBytes 12 (c .typeText)) (beBytes 8 (length (c .content))) r
+  header-front = append-assoc (fieldBytes 12 (c .typeText) (c .rest)) (beBytes 8 (length (c .content))) r
 
-  header-field : take 12 (childHeader c ++ r) ≡ textBytes 12 (c .typeText)
+  header-field : take 12 (childHeader c ++ r) ≡ fieldBytes 12 (c .typeText) (c .rest)
   header-field =
       ap (take 12) header-front
-      ∙ take-at (textBytes 12 (c .typeText)) (beBytes 8 (length (c .content)) ++ r) 12 (length-textBytes 12 (c .typeText))
+      ∙ take-at (fieldBytes 12 (c .typeText) (c .rest)) (beBytes 8 (length (c .content)) ++ r) 12 (length-fieldBytes 12 (c .typeText) (c .rest))
 
   header-after : drop 12 (childHeader c ++ r) ≡ beBytes 8 (length (c .content)) ++ r
   header-after =
       ap (drop 12) header-front
-      ∙ drop-at (textBytes 12 (c .typeText)) (beBytes 8 (length (c .content)) ++ r) 12 (length-textBytes 12 (c .typeText))
+      ∙ drop-at (fieldBytes 12 (c .typeText) (c .rest)) (beBytes 8 (length (c .content)) ++ r) 12 (length-fieldBytes 12 (c .typeText) (c .rest))
+
+  pub header-bytes : take 8 (drop 12 (childHeader c ++ r)) ≡ beBytes 8 (length (c .content))
+  header-bytes = ap (take 8) header-after ∙ take-at (beBytes 8 (length (c .content))) r 8 (length-beBytes 8 (length (c .content)))
 
   pub header-rest : drop 20 (childHeader c ++ r) ≡ r
   header-rest = drop-at (childHeader c) r 20 (length-childHeader c)
 
   module _ (w : WellChild c) where
-    pub header-ok : fieldOk (take 12 (childHeader c ++ r)) ≡ true
-    header-ok = ap fieldOk header-field ∙ fieldOk-textBytes 12 (c .typeText) (w .type-text) (w .type-fits)
+    pub header-ok : textOk (take 12 (childHeader c ++ r)) ≡ true
+    header-ok = ap textOk header-field ∙ textOk-field 12 (c .typeText) (c .rest) (w .type-fills)
 
     pub header-type : typeOf (childHeader c ++ r) ≡ c .typeText
-    header-type = ap textOf header-field ∙ textOf-textBytes 12 (c .typeText) (w .type-text) (w .type-fits)
+    header-type = ap textOf header-field ∙ textOf-field 12 (c .typeText) (c .rest) (w .type-fills)
+
+    pub header-mark : restOf (take 12 (childHeader c ++ r)) ≡ c .rest
+    header-mark = ap restOf header-field ∙ restOf-field 12 (c .typeText) (c .rest) (w .type-fills)
+
+    pub header-clean-to : fieldOk (take 12 (childHeader c ++ r)) ≡ true → CleanChild c
+    header-clean-to e = fieldOk-to 12 (c .typeText) (c .rest) (w .type-fills) (ap fieldOk (sym header-field) ∙ e)
+
+    pub header-clean-from : CleanChild c → fieldOk (take 12 (childHeader c ++ r)) ≡ true
+    header-clean-from e = ap fieldOk header-field ∙ fieldOk-from 12 (c .typeText) (c .rest) (w .type-fills) e
 
     pub header-size : sizeOf (childHeader c ++ r) ≡ length (c .content)
     header-size =
@@ -99,6 +113,10 @@ module _ (x r : List ℕ) where
 
   pub block-data : take (length x) (padded x ++ r) ≡ x
   block-data = ap (take (length x)) block-front ∙ take-at x (replicate (length x % 2) 0 ++ r) (length x) refl
+
+  pub block-pad : take (length x % 2) (drop (length x) (padded x ++ r)) ≡ replicate (length x % 2) 0
+  block-pad =
+      ap (take (length x % 2)) block-after ∙ take-at (replicate (length x % 2) 0) r (length x % 2) (length-replicate (length x % 2) 0)
 
   pub block-rest : afterBlock (length x) (padded x ++ r) ≡ r
   block-rest =

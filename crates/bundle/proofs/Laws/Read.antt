@@ -2,7 +2,7 @@
 use mathlib.Core.Path.{_≡_, refl, sym, ap, ap₂, subst, _∙_}
 use mathlib.Core.Bool.{true}
 use mathlib.Core.List.{List, [], _∷_, _++_, append-assoc}
-use Prim.Native.Nat.{ℕ, zero, suc, _+_, _*_, _%_, _^_, _≤_, _<_}
+use Prim.Native.Nat.{ℕ, zero, suc, _+_, _-_, _*_, _%_, _^_, _≤_, _<_}
 use native.Mathlib.Omega.{arith}
 use lib.Dec.{eqb, ltb, leb}
 use lib.ListN.{length, take, drop, replicate, length-append, length-drop, take-append-drop}
@@ -11,11 +11,14 @@ use borrow.Author.Tests.{eqb-true, ltb-true, leb-true}
 use Rattle.fields.specs.Bytes.{Bytes}
 use Rattle.fields.specs.Lists.{Each, flat}
 use Rattle.fields.specs.Numbers.{beBytes}
-use Rattle.fields.specs.Text.{textOf, pastText, allZero, textOk, fieldOk, textBytes}
+use Rattle.fields.specs.Text.{textOf, pastText, allZero, textOk}
+use Rattle.fields.specs.Received.{restOf, fieldBytes}
 use Rattle.fields.proofs.Laws.Bytes.{length-part, bytes-drop}
 use Rattle.fields.proofs.Laws.Checks.{and-split, cond-pass}
 use Rattle.fields.proofs.Laws.Numbers.{beAt-lt, beBytes-beAt}
-use Rattle.fields.proofs.Laws.Text.{text-ok, field-halves, textBytes-part, length-textOf-part, text-split, zeros-all}
+use Rattle.fields.proofs.Laws.Text.{text-ok, text-split, zeros-all}
+use Rattle.fields.proofs.Laws.Walks.{walk-step}
+use Rattle.fields.proofs.Laws.Received.{fills-part, fieldBytes-part}
 use Rattle.bundle.specs.Children.{padded, childHeader, childName, childData, nameTable, encodeChildren, WellChild, WellBundle}
 use Rattle.bundle.specs.Layout.{count, headers, afterHeaders, tableSize, tableOf, dataOf, typeOf, sizeOf, afterBlock, typesOk, nameOk, namesOk, tableOk, padOk, blockOk, dataOk, layoutOk, layoutFault}
 use Rattle.bundle.proofs.Laws.Children.{childrenFrom, childrenOf, length-childrenFrom}
@@ -52,10 +55,10 @@ module _ (n : ℕ) (d : List ℕ) (h : blockOk n d ≡ true) where
       ∙ take-append-drop n d
 
 -- a child's header, where its data has the size that it gives
-header-back : (h x : List ℕ) → Bytes h → 20 ≤ length h → fieldOk (take 12 h) ≡ true → length x ≡ sizeOf h
-    → textBytes 12 (typeOf h) ++ (beBytes 8 (length x) ++ drop 20 h) ≡ h
+header-back : (h x : List ℕ) → Bytes h → 20 ≤ length h → textOk (take 12 h) ≡ true → length x ≡ sizeOf h
+    → fieldBytes 12 (typeOf h) (restOf (take 12 h)) ++ (beBytes 8 (length x) ++ drop 20 h) ≡ h
 header-back h x b l f e =
-    ap₂ (λ (y : List ℕ) (n : ℕ). y ++ (beBytes 8 n ++ drop 20 h)) (textBytes-part 12 0 h (omega arith) (field-halves (take 12 h) f .1)) e
+    ap₂ (λ (y : List ℕ) (n : ℕ). y ++ (beBytes 8 n ++ drop 20 h)) (fieldBytes-part 12 0 h (omega arith)) e
     ∙ ap (λ (y : List ℕ). take 12 h ++ (y ++ drop 20 h)) (beBytes-beAt 8 12 h b (omega arith))
     ∙ ap (λ (y : List ℕ). take 12 h ++ (take 8 (drop 12 h) ++ y)) (sym (drop-drop 8 12 h))
     ∙ ap (λ (y : List ℕ). take 12 h ++ y) (take-append-drop 8 (drop 12 h))
@@ -64,6 +67,24 @@ header-back h x b l f e =
 name-halves : (t : List ℕ) → nameOk t ≡ true → (length (textOf t) < length t) × (textOk t ≡ true)
 unfolding nameOk
 name-halves t h = let k = and-split (ltb (length (textOf t)) (length t)) (textOk t) h in (ltb-true _ _ (k .0), k .1)
+
+-- one step down the data
+pub data-end : (h d : List ℕ) → dataOk 0 h d ≡ true → length d ≡ 0
+unfolding dataOk
+data-end h d e = eqb-true (length d) 0 e
+
+pub data-step : (k : ℕ) (h d : List ℕ) → dataOk (suc k) h d ≡ true
+    → (sizeOf h ≤ length d) × (sizeOf h % 2 ≤ length (drop (sizeOf h) d)) × (dataOk k (drop 20 h) (afterBlock (sizeOf h) d) ≡ true)
+unfolding dataOk padOk
+data-step k h d e =
+    let n = sizeOf h in
+    let q = and-split (blockOk n d) (dataOk k (drop 20 h) (afterBlock n d)) e in
+    let p = and-split (leb (n % 2) (length (drop n d))) (allZero (take (n % 2) (drop n d))) (block-pad n d (q .0)) in
+    (block-fits n d (q .0), leb-true (n % 2) (length (drop n d)) (p .0), q .1)
+
+pub data-next : (k : ℕ) (h d : List ℕ) → 0 < k → dataOk k h d ≡ true
+    → (sizeOf h ≤ length d) × (sizeOf h % 2 ≤ length (drop (sizeOf h) d)) × (dataOk (k - 1) (drop 20 h) (afterBlock (sizeOf h) d) ≡ true)
+data-next k h d p e = data-step (k - 1) h d (sym (walk-step (λ n. dataOk n h d) k p) ∙ e)
 
 -- ---- the walks
 
@@ -75,14 +96,14 @@ headers-read (suc k) h t d b l e f =
     let g = drop 20 h in
     let n = sizeOf h in
     let p = and-split (blockOk n d) (dataOk k g (afterBlock n d)) f in
-    let q = and-split (fieldOk (take 12 h)) (typesOk k g) e in
+    let q = and-split (textOk (take 12 h)) (typesOk k g) e in
     let r = flat childHeader (childrenFrom k g (pastText t) (afterBlock n d)) in
     let m : 20 * suc k ≡ 20 + 20 * k = omega arith in
     let lk : 20 * k ≤ length g = omega (arith, length-drop 20 h) in
-    append-assoc (textBytes 12 (typeOf h) ++ beBytes 8 (length (take n d))) r (drop (20 * suc k) h)
-    ∙ append-assoc (textBytes 12 (typeOf h)) (beBytes 8 (length (take n d))) (r ++ drop (20 * suc k) h)
-    ∙ ap (λ (x : List ℕ). textBytes 12 (typeOf h) ++ (beBytes 8 (length (take n d)) ++ (r ++ x))) (ap (λ (j : ℕ). drop j h) m ∙ sym (drop-drop (20 * k) 20 h))
-    ∙ ap (λ (x : List ℕ). textBytes 12 (typeOf h) ++ (beBytes 8 (length (take n d)) ++ x)) (headers-read k g (pastText t) (afterBlock n d) (bytes-drop 20 h b) lk (q .1) (p .1))
+    append-assoc (fieldBytes 12 (typeOf h) (restOf (take 12 h)) ++ beBytes 8 (length (take n d))) r (drop (20 * suc k) h)
+    ∙ append-assoc (fieldBytes 12 (typeOf h) (restOf (take 12 h))) (beBytes 8 (length (take n d))) (r ++ drop (20 * suc k) h)
+    ∙ ap (λ (x : List ℕ). fieldBytes 12 (typeOf h) (restOf (take 12 h)) ++ (beBytes 8 (length (take n d)) ++ (r ++ x))) (ap (λ (j : ℕ). drop j h) m ∙ sym (drop-drop (20 * k) 20 h))
+    ∙ ap (λ (x : List ℕ). fieldBytes 12 (typeOf h) (restOf (take 12 h)) ++ (beBytes 8 (length (take n d)) ++ x)) (headers-read k g (pastText t) (afterBlock n d) (bytes-drop 20 h b) lk (q .1) (p .1))
     ∙ header-back h (take n d) b (omega arith) (q .0) (block-length n d (p .0))
 
 -- the names, and the rest of the table: at most one 0
@@ -112,23 +133,22 @@ data-read (suc k) h t d e =
     ap (λ (l : List ℕ). padded (take (sizeOf h) d) ++ l) (data-read k (drop 20 h) (pastText t) (afterBlock (sizeOf h) d) (q .1))
     ∙ block-back (sizeOf h) d (q .0)
 
-well-read : (k : ℕ) (h t d : List ℕ) → Bytes h → typesOk k h ≡ true → namesOk k t ≡ true → dataOk k h d ≡ true → Each WellChild (childrenFrom k h t d)
+well-read : (k : ℕ) (h t d : List ℕ) → Bytes h → 20 * k ≤ length h → typesOk k h ≡ true → namesOk k t ≡ true → dataOk k h d ≡ true → Each WellChild (childrenFrom k h t d)
 unfolding typesOk namesOk dataOk childrenFrom
-well-read zero h t d b e f g = tt
-well-read (suc k) h t d b e f g =
+well-read zero h t d b v e f g = tt
+well-read (suc k) h t d b v e f g =
     let n = sizeOf h in
-    let p = and-split (fieldOk (take 12 h)) (typesOk k (drop 20 h)) e in
+    let p = and-split (textOk (take 12 h)) (typesOk k (drop 20 h)) e in
     let q = and-split (nameOk t) (namesOk k (pastText t)) f in
     let r = and-split (blockOk n d) (dataOk k (drop 20 h) (afterBlock n d)) g in
     let l = block-length n d (r .0) in
     let z = beAt-lt 8 12 h b in (
       record {
-        type-text = text-ok (take 12 h) (field-halves (take 12 h) (p .0) .0);
-        type-fits = length-textOf-part 12 0 h;
+        type-fills = fills-part 12 0 h b (omega arith) (p .0);
         name-text = text-ok t (name-halves t (q .0) .1);
         size-fits = subst (λ (m : ℕ). m < 256 ^ 8) (sym l) z;
       },
-      well-read k (drop 20 h) (pastText t) (afterBlock n d) (bytes-drop 20 h b) (p .1) (q .1) (r .1),
+      well-read k (drop 20 h) (pastText t) (afterBlock n d) (bytes-drop 20 h b) (omega (arith, length-drop 20 h)) (p .1) (q .1) (r .1),
     )
 
 -- ---- a content that is laid out right
@@ -146,8 +166,11 @@ module _ (s : List ℕ) (h : layoutFault s ≡ 0) where
       let r = and-split (tableOk (count s) (tableOf s)) _ (q .1) in
       (p .0, q .0, r .0, r .1)
 
-  layout-fits : 4 + 20 * count s + tableSize s ≤ length s
+  pub layout-fits : 4 + 20 * count s + tableSize s ≤ length s
   layout-fits = leb-true (4 + 20 * count s + tableSize s) (length s) (parts-ok .0)
+
+  pub layout-data : dataOk (count s) (headers s) (dataOf s) ≡ true
+  layout-data = parts-ok .3
 
   table-halves : (length (tableOf s) % 2 ≡ 0) × (namesOk (count s) (tableOf s) ≡ true)
   unfolding tableOk
@@ -205,5 +228,5 @@ module _ (s : List ℕ) (h : layoutFault s ≡ 0) where
           count-fits = subst (λ (m : ℕ). m < 256 ^ 2) (sym count-read) (beAt-lt 2 0 s b);
           table-fits =
               subst (λ (m : ℕ). m < 256 ^ 2) (sym (ap length table-read ∙ table-length)) (beAt-lt 2 0 (afterHeaders s) (bytes-drop (2 + 20 * count s) s b));
-          each = well-read (count s) (headers s) (tableOf s) (dataOf s) (bytes-drop 2 s b) (parts-ok .1) (table-halves .1) (parts-ok .3);
+          each = well-read (count s) (headers s) (tableOf s) (dataOf s) (bytes-drop 2 s b) (omega (arith, length-drop 2 s, layout-fits)) (parts-ok .1) (table-halves .1) (parts-ok .3);
         }

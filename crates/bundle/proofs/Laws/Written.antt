@@ -1,7 +1,7 @@
 -- What is written from children: its parts are those of the children, its layout is accepted, and it is read back as them.
 use mathlib.Core.Path.{_≡_, refl, sym, ap, ap₂, _∙_}
 use mathlib.Core.Bool.{Bool, true, cond, _&&_}
-use mathlib.Core.List.{List, [], _∷_, _++_, append-nil}
+use mathlib.Core.List.{List, [], _∷_, _++_, append-nil, append-assoc}
 use Prim.Native.Nat.{ℕ, suc, _+_, _*_, _%_, _≤_, _<_}
 use native.Mathlib.Omega.{arith}
 use lib.ListN.{length, take, drop, replicate, length-append, length-replicate}
@@ -9,14 +9,14 @@ use lib.Seq.{take-at, drop-at, drop-drop}
 use borrow.Author.Tests.{eq-eqb, le-leb, lt-ltb}
 use Rattle.fields.specs.Lists.{Each, flat}
 use Rattle.fields.specs.Numbers.{beVal, beBytes}
-use Rattle.fields.specs.Text.{isText, textOf, pastText, allZero, textOk, fieldOk}
+use Rattle.fields.specs.Text.{isText, textOf, pastText, allZero, textOk}
 use Rattle.fields.proofs.Laws.Checks.{and-join}
 use Rattle.fields.proofs.Laws.Lists.{flat-cons, length-flat}
 use Rattle.fields.proofs.Laws.Numbers.{length-beBytes, beVal-beBytes}
 use Rattle.fields.proofs.Laws.Text.{text-is, all-zeros}
 use Rattle.bundle.specs.Children.{Child, padded, childHeader, childName, childData, nameTable, encodeChildren, WellChild, WellBundle}
 use Rattle.bundle.specs.Layout.{count, headers, afterHeaders, tableSize, tableOf, dataOf, sizeOf, afterBlock, typesOk, nameOk, namesOk, tableOk, blockOk, dataOk, layoutOk, layoutFault}
-use Rattle.bundle.proofs.Laws.Children.{childrenFrom, childrenOf, length-childHeader, header-ok, header-type, header-size, header-rest, name-text, name-rest, block-data, block-rest, block-ok}
+use Rattle.bundle.proofs.Laws.Children.{childrenFrom, childrenOf, length-childHeader, header-ok, header-type, header-mark, header-size, header-rest, name-text, name-rest, block-data, block-rest, block-ok}
 
 pub length-headers : (cs : List Child) → length (flat childHeader cs) ≡ 20 * length cs
 length-headers cs = length-flat childHeader 20 length-childHeader cs
@@ -45,7 +45,7 @@ unfolding typesOk
 types-written [] w r = refl
 types-written (c ∷ cs) w r =
     let l = flat childHeader cs ++ r in
-    ap (λ (h : List ℕ). fieldOk (take 12 h) && typesOk (length cs) (drop 20 h)) (flat-cons childHeader c cs r)
+    ap (λ (h : List ℕ). textOk (take 12 h) && typesOk (length cs) (drop 20 h)) (flat-cons childHeader c cs r)
     ∙ and-join _ _ (header-ok c l (w .0)) (ap (typesOk (length cs)) (header-rest c l) ∙ types-written cs (w .1) r)
 
 names-written : (cs : List Child) → Each WellChild cs → (r : List ℕ) → length r ≤ 1 → allZero r ≡ true → namesOk (length cs) (flat childName cs ++ r) ≡ true
@@ -62,9 +62,9 @@ pub data-front : (c : Child) (cs : List Child) → flat childData (c ∷ cs) ≡
 unfolding flat childData
 data-front c cs = refl
 
-child-eq : {t u n m x y : List ℕ} → t ≡ u → n ≡ m → x ≡ y
-    → _≡_ {A = Child} (record { typeText = t; name = n; content = x }) (record { typeText = u; name = m; content = y })
-child-eq p q r = λ i. record { typeText = p i; name = q i; content = r i }
+child-eq : {t u o v n m x y : List ℕ} → t ≡ u → o ≡ v → n ≡ m → x ≡ y
+    → _≡_ {A = Child} (record { typeText = t; rest = o; name = n; content = x }) (record { typeText = u; rest = v; name = m; content = y })
+child-eq p o q r = λ i. record { typeText = p i; rest = o i; name = q i; content = r i }
 
 data-written : (cs : List Child) → Each WellChild cs → (r : List ℕ) → dataOk (length cs) (flat childHeader cs ++ r) (flat childData cs) ≡ true
 unfolding dataOk flat
@@ -92,7 +92,7 @@ read-back (c ∷ cs) w r p =
     ap₂ (λ (x y : List ℕ). childrenFrom (suc (length cs)) x y (flat childData (c ∷ cs))) (flat-cons childHeader c cs r) (flat-cons childName c cs p)
     ∙ ap (childrenFrom (suc (length cs)) (childHeader c ++ l) (childName c ++ t)) (data-front c cs)
     ∙ ap₂ {C = List Child} (λ x xs. x ∷ xs)
-    (child-eq (header-type c l (w .0)) (name-text c (w .0) t) (ap (λ (n : ℕ). take n (padded (c .content) ++ d)) (header-size c l (w .0)) ∙ block-data (c .content) d))
+    (child-eq (header-type c l (w .0)) (header-mark c l (w .0)) (name-text c (w .0) t) (ap (λ (n : ℕ). take n (padded (c .content) ++ d)) (header-size c l (w .0)) ∙ block-data (c .content) d))
     (ap₂ (λ (x y : List ℕ). childrenFrom (length cs) x y (afterBlock (sizeOf (childHeader c ++ l)) (padded (c .content) ++ d))) (header-rest c l) (name-rest c (w .0) t)
     ∙ ap (childrenFrom (length cs) l t) (ap (λ (n : ℕ). afterBlock n (padded (c .content) ++ d)) (header-size c l (w .0)) ∙ block-rest (c .content) d)
     ∙ read-back cs (w .1) r p)
@@ -125,6 +125,9 @@ module _ (cs : List Child) where
         length-headers cs,
       )
 
+  pub count-bytes : take 2 (encodeChildren cs) ≡ beBytes 2 (length cs)
+  count-bytes = ap (take 2) encode-front ∙ take-at (beBytes 2 (length cs)) afterCount 2 (length-beBytes 2 (length cs))
+
   pub headers-written : headers (encodeChildren cs) ≡ afterCount
   headers-written = ap (drop 2) encode-front ∙ drop-at (beBytes 2 (length cs)) afterCount 2 (length-beBytes 2 (length cs))
 
@@ -152,6 +155,15 @@ module _ (cs : List Child) where
     rest-written =
         ap (drop 2) after-written
         ∙ drop-at (beBytes 2 (length (nameTable cs))) (nameTable cs ++ flat childData cs) 2 (length-beBytes 2 (length (nameTable cs)))
+
+    -- the table and its size
+    pub table-bytes : take (2 + tableSize (encodeChildren cs)) (afterHeaders (encodeChildren cs)) ≡ beBytes 2 (length (nameTable cs)) ++ nameTable cs
+    table-bytes =
+        let b = beBytes 2 (length (nameTable cs)) in
+        let n : length (b ++ nameTable cs) ≡ 2 + length (nameTable cs) =
+        length-append b (nameTable cs) ∙ ap (λ (m : ℕ). m + length (nameTable cs)) (length-beBytes 2 (length (nameTable cs))) in
+        ap₂ (λ (m : ℕ) (l : List ℕ). take (2 + m) l) tableSize-written (after-written ∙ sym (append-assoc b (nameTable cs) (flat childData cs)))
+        ∙ take-at (b ++ nameTable cs) (flat childData cs) (2 + length (nameTable cs)) n
 
     pub table-written : tableOf (encodeChildren cs) ≡ nameTable cs
     table-written = ap₂ take tableSize-written rest-written ∙ take-at (nameTable cs) (flat childData cs) (length (nameTable cs)) refl

@@ -1,29 +1,39 @@
 -- Look-ups in an accepted content give its children: those of the tree that is written as it.
 use Prim.Native.Nat.{ℕ, _+_, _-_, _*_, _%_, _≤_, _<_}
 use mathlib.Core.Path.{_≡_, refl, sym, ap, ap₂, subst, _∙_}
+use mathlib.Core.Bool.{Bool, true, false}
 use mathlib.Core.List.{List, [], _∷_, _++_}
 use native.Mathlib.Omega.{arith}
+use lib.Dec.{eqb}
 use lib.ListN.{length, take, drop, replicate, length-append}
-use borrow.Author.Tests.{eq-eqb, ne-eqb, lt-ltb, le-ltb}
+use borrow.Author.Tests.{eq-eqb, ne-eqb, eqb-true, eqb-false, lt-ltb, le-ltb}
 use Rattle.fields.specs.Bytes.{Bytes, same}
 use Rattle.fields.specs.Lists.{Each, flat}
 use Rattle.fields.specs.Numbers.{beBytes}
 use Rattle.fields.specs.Text.{textOf}
 use Rattle.fields.proofs.Laws.Checks.{else-second}
+use Rattle.fields.proofs.Laws.Tests.{by-test}
 use Rattle.fields.proofs.Laws.Lists.{flat-cons, flat-append, each-middle}
 use Rattle.bundle.specs.Children.{Child, padded, childHeader, childName, childData, nameTable, encodeChildren, WellChild, WellBundle}
 use Rattle.bundle.specs.Layout.{count, headers, tableOf, dataOf, typeOf, sizeOf}
 use Rattle.bundle.proofs.Laws.Children.{header-type, header-size, name-text, block-data}
 use Rattle.bundle.proofs.Laws.Written.{length-encode, headers-written, count-written, table-written, data-of-written, data-front}
 use Rattle.content.specs.Kinds.{bindText}
-use Rattle.content.specs.Tree.{Content, transform, position, image, bind, other, typeText, encode, childList, WellFormed}
+use Rattle.content.specs.Tree.{Content, transform, position, image, bind, other, typeText, encode, childList, WellFormed, IsClean}
 use Rattle.content.specs.Check.{bindFault, contentFault, deepest}
 use Rattle.content.proofs.Laws.Kinds.{differ}
 use Rattle.content.proofs.Laws.Faults.{bind-content}
+use Rattle.fields.specs.declared.Checked.{Checked}
+use Rattle.fields.proofs.Laws.Answer.{checked-refused}
+use Rattle.content.specs.Check.{bindClean, bindChecked, contentChecked}
 use Rattle.content.proofs.Laws.Contents.{content-accepted, content-well}
+use Rattle.content.proofs.Laws.Kinds.{kind-bind}
+use Rattle.content.proofs.Laws.Marks.{mark-to, mark-from}
+use Rattle.content.proofs.Laws.Walk.{kind-bound}
+use Rattle.child.specs.declared.ChildCount.{ChildCount}
 use Rattle.child.specs.declared.Place.{Place}
-use Rattle.child.specs.Lookup.{headersFrom, namesFrom, dataFrom, indexOf, indexIn, countOf, childNumber, placed, placeIn, placeOf, partAt, typeAt, nameAt}
-use Rattle.child.specs.Lookups.{HasChildren, Numbered, NoneNamed, FirstNamed, placeAmong, Lookups}
+use Rattle.child.specs.Lookup.{markOf, headersFrom, namesFrom, dataFrom, indexOf, indexIn, countOf, childNumber, placed, placeIn, placeOf, partAt, typeAt, nameAt}
+use Rattle.child.specs.Lookups.{HasChildren, Numbered, NoneNamed, FirstNamed, Marks, placeAmong, Lookups}
 use Rattle.child.proofs.Laws.Cases.{numbered-or-none, named-or-none}
 use Rattle.child.proofs.Laws.Lookup.{left-place, number-fault}
 use Rattle.child.proofs.Laws.Past.{headers-past, names-past, data-past, index-first, index-none}
@@ -56,26 +66,58 @@ module _ (s : List ℕ) (cs : List Child) (h : HasChildren s cs) where
   unfolding nameTable padded
   table-of = ap (λ (l : List ℕ). tableOf l) (sym written) ∙ table-written cs well
 
+-- ---- the mark
+
+mark-refused : (s : List ℕ) → (bindFault deepest s ≡ 0 → ⊥) → markOf s ≡ false
+unfolding bindChecked
+mark-refused s h = ap (λ (x : Checked). x .clean) (checked-refused (bindFault deepest s) (bindClean deepest s) h)
+
+module _ (s : List ℕ) (cs : List Child) (h : HasChildren s cs) where
+  mark-is : contentChecked deepest bindText (encode (bind (h .tree))) .clean ≡ markOf s
+  mark-is =
+      ap (λ (x : Checked). x .clean) (kind-bound deepest bindText (encode (bind (h .tree))) kind-bind) ∙ ap markOf (h .bytes)
+
+  mark-clean : markOf s ≡ true → IsClean (bind (h .tree))
+  mark-clean e = mark-to deepest (bind (h .tree)) (h .well) (mark-is ∙ e)
+
+  clean-mark : IsClean (bind (h .tree)) → markOf s ≡ true
+  clean-mark e = sym mark-is ∙ mark-from deepest (bind (h .tree)) (h .well) e
+
+-- a mark that is the content's
+pub marks : (s : List ℕ) (b : Bool) → b ≡ markOf s → Marks b s
+marks s b e cs h = (λ t. mark-clean s cs h (sym e ∙ t), λ c. e ∙ clean-mark s cs h c)
+
 -- ---- the answers, by cases
 
 module _ (s : List ℕ) where
-  count-accepted : bindFault deepest s ≡ 0 → countOf s ≡ record { number = 0; count = count s }
+  count-accepted : bindFault deepest s ≡ 0 → countOf s ≡ record { number = 0; count = count s; clean = markOf s }
   unfolding countOf
-  count-accepted h = simp (eq-eqb (bindFault deepest s) 0 h) (ap (λ (n : ℕ). record { number = n; count = count s }) h)
+  count-accepted h = simp (eq-eqb (bindFault deepest s) 0 h) (ap (λ (n : ℕ). record { number = n; count = count s; clean = markOf s }) h)
 
-  count-refused : (bindFault deepest s ≡ 0 → ⊥) → countOf s ≡ record { number = bindFault deepest s; count = 0 }
+  count-refused : (bindFault deepest s ≡ 0 → ⊥) → countOf s ≡ record { number = bindFault deepest s; count = 0; clean = false }
   unfolding countOf
-  count-refused h = simp (ne-eqb (bindFault deepest s) 0 h)
+  count-refused h =
+      simp (ne-eqb (bindFault deepest s) 0 h) (ap {B = ChildCount} (λ (b : Bool). record { number = bindFault deepest s; count = 0; clean = b }) (mark-refused s h))
 
-module _ (number : ℕ) (s : List ℕ) (j : ℕ) where
+  count-marked : countOf s .clean ≡ markOf s
+  unfolding countOf
+  count-marked = refl
+
+module _ (number : ℕ) (mark : Bool) (s : List ℕ) (j : ℕ) where
   placed-accepted : number ≡ 0
-      → placed number s j ≡ record { number = 0; at = length s - length (dataFrom j (headers s) (dataOf s)); len = sizeOf (headersFrom j s) }
+      → placed number mark s j ≡ record { number = 0; at = length s - length (dataFrom j (headers s) (dataOf s)); len = sizeOf (headersFrom j s); clean = mark }
   unfolding placed
   placed-accepted h = simp (eq-eqb number 0 h)
 
-  placed-refused : (number ≡ 0 → ⊥) → placed number s j ≡ record { number = number; at = 0; len = 0 }
+  placed-refused : (number ≡ 0 → ⊥) → placed number mark s j ≡ record { number = number; at = 0; len = 0; clean = false }
   unfolding placed
   placed-refused h = simp (ne-eqb number 0 h)
+
+  pub placed-marked : placed number mark s j .number ≡ 0 → placed number mark s j .clean ≡ mark
+  placed-marked z =
+      by-test (eqb number 0)
+      (λ e. ap (λ (p : Place). p .clean) (placed-accepted (eqb-true number 0 e)))
+      (λ e. let n = eqb-false number 0 e in absurd (n (sym (ap (λ (p : Place). p .number) (placed-refused n)) ∙ z)))
 
 module _ (fault : ℕ) (s : List ℕ) (j : ℕ) (e : fault ≡ 0) where
   number-found : j < count s → childNumber fault s j ≡ 0
@@ -86,8 +128,8 @@ module _ (fault : ℕ) (s : List ℕ) (j : ℕ) (e : fault ≡ 0) where
   unfolding childNumber
   number-none h = else-second fault _ e ∙ simp (le-ltb j (count s) h)
 
-  pub place-none : count s ≤ j → placeIn fault s j ≡ record { number = 19; at = 0; len = 0 }
-  place-none h = ap (λ (n : ℕ). placed n s j) (number-none h) ∙ placed-refused 19 s j (λ z. omega arith)
+  pub place-none : (mark : Bool) → count s ≤ j → placeIn fault mark s j ≡ record { number = 19; at = 0; len = 0; clean = false }
+  place-none mark h = ap (λ (n : ℕ). placed n mark s j) (number-none h) ∙ placed-refused 19 mark s j (λ z. omega arith)
 
 -- c is child n
 module _ (s : List ℕ) (cs : List Child) (n : ℕ) (c : Child) (h : HasChildren s cs) (k : Numbered n c cs) where
@@ -143,11 +185,11 @@ module _ (s : List ℕ) (cs : List Child) (n : ℕ) (c : Child) (h : HasChildren
   number-at : childNumber (bindFault deepest s) s n ≡ 0
   number-at = number-found (bindFault deepest s) s n (accepted s cs h) inside
 
-  place-at : placeOf s n ≡ record { number = 0; at = length s - length (dataFrom n (headers s) (dataOf s)); len = sizeOf (headersFrom n s) }
-  place-at = placed-accepted (childNumber (bindFault deepest s) s n) s n number-at
+  place-at : placeOf s n ≡ record { number = 0; at = length s - length (dataFrom n (headers s) (dataOf s)); len = sizeOf (headersFrom n s); clean = markOf s }
+  place-at = placed-accepted (childNumber (bindFault deepest s) s n) (markOf s) s n number-at
 
-  pub child-place : placeOf s n ≡ placeAmong cs (k .before) c
-  child-place = place-at ∙ (λ i. record { number = 0; at = at-at i; len = len-at i })
+  pub child-place : placeOf s n ≡ placeAmong (markOf s) cs (k .before) c
+  child-place = place-at ∙ (λ i. record { number = 0; at = at-at i; len = len-at i; clean = markOf s })
 
   pub child-content : partAt (placeOf s n) s ≡ c .content
   child-content =
@@ -164,8 +206,8 @@ module _ (s : List ℕ) (cs : List Child) (n : ℕ) (c : Child) (h : HasChildren
   child-name = simp (eq-eqb _ 0 number-at) (ap textOf names-at ∙ name-text c well-child (flat childName after ++ pad s cs h))
 
 module _ (s : List ℕ) (cs : List Child) (h : HasChildren s cs) where
-  place-past : (n : ℕ) → length cs ≤ n → placeOf s n ≡ record { number = 19; at = 0; len = 0 }
-  place-past n l = place-none (bindFault deepest s) s n (accepted s cs h) (omega (arith, l, count-of s cs h))
+  place-past : (n : ℕ) → length cs ≤ n → placeOf s n ≡ record { number = 19; at = 0; len = 0; clean = false }
+  place-past n l = place-none (bindFault deepest s) s n (accepted s cs h) (markOf s) (omega (arith, l, count-of s cs h))
 
   index-of : (x : List ℕ) → indexOf s x ≡ indexIn (length cs) (flat childName cs ++ pad s cs h) x
   index-of x = ap₂ (λ (m : ℕ) (t : List ℕ). indexIn m t x) (count-of s cs h) (table-of s cs h)
@@ -196,21 +238,21 @@ has-children s b e = let x = content-accepted deepest bindText s b (bind-content
 
 -- ---- a refused look-up
 
-pub place-refused : (fault : ℕ) (s : List ℕ) (j : ℕ) → (fault ≡ 0 → ⊥) → placeIn fault s j ≡ record { number = fault; at = 0; len = 0 }
-place-refused fault s j h = ap (λ (n : ℕ). placed n s j) (number-fault fault s j h) ∙ placed-refused fault s j h
+pub place-refused : (fault : ℕ) (mark : Bool) (s : List ℕ) (j : ℕ) → (fault ≡ 0 → ⊥) → placeIn fault mark s j ≡ record { number = fault; at = 0; len = 0; clean = false }
+place-refused fault mark s j h = ap (λ (n : ℕ). placed n mark s j) (number-fault fault s j h) ∙ placed-refused fault mark s j h
 
 empty-parts : (s : List ℕ) (n : ℕ) → (placeOf s n .number ≡ 0 → ⊥) → (partAt (placeOf s n) s ≡ []) × (typeAt s n ≡ []) × (nameAt s n ≡ [])
 unfolding typeAt nameAt
 empty-parts s n h =
     let k = childNumber (bindFault deepest s) s n in
-    let z : k ≡ 0 → ⊥ = λ e. h (ap (λ (p : Place). p .number) (placed-accepted k s n e)) in
-    (ap (λ (p : Place). partAt p s) (placed-refused k s n z), simp (ne-eqb k 0 z), simp (ne-eqb k 0 z))
+    let z : k ≡ 0 → ⊥ = λ e. h (ap (λ (p : Place). p .number) (placed-accepted k (markOf s) s n e)) in
+    (ap (λ (p : Place). partAt p s) (placed-refused k (markOf s) s n z), simp (ne-eqb k 0 z), simp (ne-eqb k 0 z))
 
 pub lookups : Lookups
 lookups =
     record {
       some = has-children;
-      count = λ s cs h. count-accepted s (accepted s cs h) ∙ ap (λ (m : ℕ). record { number = 0; count = m }) (count-of s cs h);
+      count = λ s cs h. count-accepted s (accepted s cs h) ∙ ap (λ (m : ℕ). record { number = 0; count = m; clean = markOf s }) (count-of s cs h);
       place = child-place;
       content = child-content;
       type = child-type;
@@ -220,8 +262,11 @@ lookups =
       named = λ s cs x n c h f. ap (placeOf s) (index-named s cs h x n c f);
       unnamed = λ s cs x h f. ap (placeOf s) (index-unnamed s cs h x f) ∙ place-past s cs h (length cs) (omega arith);
       named-or-none = named-or-none;
-      refused = λ s n h. place-refused (bindFault deepest s) s n h;
-      refused-named = λ s x h. place-refused (bindFault deepest s) s (indexOf s x) h;
+      mark = λ s n z. marks s _ (placed-marked _ (markOf s) s n z);
+      mark-named = λ s x z. marks s _ (placed-marked _ (markOf s) s (indexOf s x) z);
+      mark-count = λ s z. marks s _ (count-marked s);
+      refused = λ s n h. place-refused (bindFault deepest s) (markOf s) s n h;
+      refused-named = λ s x h. place-refused (bindFault deepest s) (markOf s) s (indexOf s x) h;
       refused-count = count-refused;
       empty = empty-parts;
       empty-named = λ s x h. empty-parts s (indexOf s x) h .0;

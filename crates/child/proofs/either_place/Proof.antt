@@ -1,9 +1,11 @@
 -- `child::either_place` meets its contract: the site's bundle where it has the name, else the default one.
 use Prim.Native.Nat.{ℕ, _≤_, _<_}
-use mathlib.Core.Path.{_≡_, sym, ap₂, _∙_}
+use mathlib.Core.Path.{_≡_, ap, sym, ap₂, _∙_}
 use mathlib.Core.Bool.{true, false}
 use lib.Dec.{ltb}
 use borrow.Author.Tests.{lt-ltb, le-ltb}
+use Rattle.content.specs.Check.{deepest}
+use Rattle.content.proofs.Laws.Walk.{bind-number}
 use Rattle.child.specs.Either.{eitherPlace}
 use borrow.Author.Needs.{needs}
 use Rattle.child.proofs.either_place.Statement.{statement}
@@ -17,8 +19,14 @@ module _ {i j n m : ℕ} (p : i ≡ j) (q : n ≡ m) where
   not-below : n ≤ i → ltb j m ≡ false
   not-below h = ap₂ ltb (sym p) (sym q) ∙ le-ltb i n h
 
-either-fault-requires : tie.Need-either-fault-requires
-either-fault-requires c κs = search needs
+bind-check-requires : tie.Need-bind-check-requires
+bind-check-requires c κs = search needs
+
+bind-check-requires-2 : tie.Need-bind-check-requires-2
+bind-check-requires-2 c κs = search needs
+
+first-number-requires : tie.Need-first-number-requires
+first-number-requires c κs = search needs
 
 index-of-requires : tie.Need-index-of-requires
 index-of-requires c κs = search needs
@@ -36,6 +44,9 @@ returns : tie.Need-returns
 unfolding eitherPlace
 returns c =
     let a = c .before .before .before in
+    let z = c .before .before .before .before .before .before .before .before .before .before .before .args in
+    let p = bind-number deepest (z .site .now) in
+    let q = bind-number deepest (z .default .now) in
     simp (below (a .before .index-of .ensures) (a .count .ensures) (c .before .before .if1 .taken)) cc
 
 index-of-requires-2 : tie.Need-index-of-requires-2
@@ -51,13 +62,18 @@ returns-2 : tie.Need-returns-2
 unfolding eitherPlace
 returns-2 c =
     let a = c .before .before .before .before in
+    let z = c .before .before .before .before .before .before .before .before .before .before .before .before .args in
+    let p = bind-number deepest (z .site .now) in
+    let q = bind-number deepest (z .default .now) in
     simp (not-below (a .before .index-of .ensures) (a .count .ensures) (c .before .before .before .if1 .left)) cc
 
 pub either-place-spec : {M : Type 1} → statement M
 either-place-spec =
     tie.close
     (tie.spec
-    either-fault-requires
+    bind-check-requires
+    bind-check-requires-2
+    first-number-requires
     index-of-requires
     count-requires
     place-in-requires

@@ -1,10 +1,12 @@
 -- `child::named_place` meets its contract.
 use borrow.Author.Needs.{needs}
+use Rattle.content.specs.Check.{deepest}
+use Rattle.content.proofs.Laws.Walk.{bind-number}
 use Rattle.child.proofs.named_place.Statement.{statement}
 use Rattle.child.proofs.named_place.Tie as tie
 
-bind-number-requires : tie.Need-bind-number-requires
-bind-number-requires c κs = search needs
+bind-check-requires : tie.Need-bind-check-requires
+bind-check-requires c κs = search needs
 
 index-of-requires : tie.Need-index-of-requires
 index-of-requires c κs = search needs
@@ -13,8 +15,10 @@ place-in-requires : tie.Need-place-in-requires
 place-in-requires c κs = search needs
 
 returns : tie.Need-returns
-returns c = cc
+returns c =
+    let n = bind-number deepest (c .before .before .before .before .before .args .content .now) in
+    cc
 
 pub named-place-spec : {M : Type 1} → statement M
 named-place-spec =
-    tie.close (tie.spec bind-number-requires index-of-requires place-in-requires returns)
+    tie.close (tie.spec bind-check-requires index-of-requires place-in-requires returns)

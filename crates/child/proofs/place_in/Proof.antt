@@ -19,8 +19,8 @@ returns c =
 data-from-requires : tie.Need-data-from-requires
 data-from-requires c κs = search needs
 
-sub-t9 : tie.Need-sub-t9
-sub-t9 c = left-inside (c .before .before .before .before .args .content .now) _ (c .data-from .ensures)
+sub-t10 : tie.Need-sub-t10
+sub-t10 c = left-inside (c .before .before .before .before .args .content .now) _ (c .data-from .ensures)
 
 headers-from-requires : tie.Need-headers-from-requires
 headers-from-requires c κs = search needs
@@ -41,7 +41,7 @@ place-in-spec =
     child-number-requires
     returns
     data-from-requires
-    sub-t9
+    sub-t10
     headers-from-requires
     size-of-requires
     returns-2)

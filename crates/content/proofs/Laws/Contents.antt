@@ -19,7 +19,7 @@ use Rattle.content.specs.declared.Kind.the-variants.{Transform, Position
 use Rattle.content.specs.Kinds.{bindText}
 use Rattle.content.specs.Tree.{Content, Children, transform, position, image, bind, other, none, more, typeText, encode, childList, WellFormed, WellChildren}
 use Rattle.content.specs.Check.{childrenFault, bindFault, contentFault}
-use Rattle.content.specs.Contents.{IsContent, Contents}
+use Rattle.content.specs.Contents.{IsContent}
 use Rattle.content.proofs.Laws.Kinds.{View, is-transform, is-position, is-image, is-bind, is-other, view, differ}
 use Rattle.content.proofs.Laws.Faults.{childFault, none-faulty, all-faultless, bind-children, bind-written, numbers}
 use Rattle.content.proofs.Laws.Walk.{kind-fault, bind-none-left}
@@ -40,7 +40,7 @@ mutual
 
   children-well : (levels : ℕ) (cs : Children) → WellChildren cs levels → Each (λ c. childFault levels c ≡ 0) (childList cs)
   children-well levels none w = tt
-  children-well levels (more name x cs) w = (content-well levels x (w .0), children-well levels cs (w .1))
+  children-well levels (more rest name x cs) w = (content-well levels x (w .0), children-well levels cs (w .1))
 
 -- ---- what is accepted is well formed
 
@@ -58,8 +58,8 @@ trees levels judge [] b e = (none, refl, tt)
 trees levels judge (c ∷ cs) b e =
     let x = judge (c .typeText) (c .content) (b .0) (e .0) in
     let r = trees levels judge cs (b .1) (e .1) in (
-      more (c .name) (x .content) (r .0),
-      (λ i. record { typeText = x .type i; name = c .name; content = x .bytes i } ∷ r .1 i),
+      more (c .rest) (c .name) (x .content) (r .0),
+      (λ i. record { typeText = x .type i; rest = c .rest; name = c .name; content = x .bytes i } ∷ r .1 i),
       (x .well, r .2),
     )
 
@@ -108,7 +108,7 @@ child-nil e = let z : _≡_ {A = ℕ} 0 1 = cc in omega arith
 mutual
   unfolding WellFormed encode same
 
-  content-unique : (l m : ℕ) (x y : Content) → WellFormed x l → WellFormed y m → typeText x ≡ typeText y → encode x ≡ encode y → x ≡ y
+  pub content-unique : (l m : ℕ) (x y : Content) → WellFormed x l → WellFormed y m → typeText x ≡ typeText y → encode x ≡ encode y → x ≡ y
   content-unique l m (transform ws) (transform vs) v w t e = ap transform (words-unique ws vs (v .words) (w .words) e)
   content-unique l m (position ws) (position vs) v w t e = ap position (words-unique ws vs (v .words) (w .words) e)
   content-unique l m (image x) (image y) v w t e = ap image (image-unique x y v w e)
@@ -140,14 +140,12 @@ mutual
 
   children-unique : (l m : ℕ) (xs ys : Children) → WellChildren xs l → WellChildren ys m → childList xs ≡ childList ys → xs ≡ ys
   children-unique l m none none v w e = refl
-  children-unique l m none (more name y ys) v w e = absurd (child-nil e)
-  children-unique l m (more name x xs) none v w e = absurd (child-nil (sym e))
-  children-unique l m (more name x xs) (more title y ys) v w e =
+  children-unique l m none (more rest name y ys) v w e = absurd (child-nil e)
+  children-unique l m (more rest name x xs) none v w e = absurd (child-nil (sym e))
+  children-unique l m (more rest name x xs) (more past title y ys) v w e =
       let p = child-cons e in
       let n = ap (λ (c : Child). c .name) (p .0) in
+      let o = ap (λ (c : Child). c .rest) (p .0) in
       let a = content-unique l m x y (v .0) (w .0) (ap (λ (c : Child). c .typeText) (p .0)) (ap (λ (c : Child). c .content) (p .0)) in
       let r = children-unique l m xs ys (v .1) (w .1) (p .1) in
-      λ i. more (n i) (a i) (r i)
-
-pub contents : Contents
-contents = record { accepted = content-accepted; well-accepted = content-well; unique = content-unique }
+      λ i. more (o i) (n i) (a i) (r i)

@@ -47,7 +47,7 @@ all-faultless f (c ∷ cs) e = else-zero (f c) (firstFault f cs) (e .0) (all-fau
 
 -- what is read past the end of the children
 abbrev pub noChild : Child
-noChild = record { typeText = []; name = []; content = [] }
+noChild = record { typeText = []; rest = []; name = []; content = [] }
 
 -- the first fault, from place i on
 module _ (f : Child → ℕ) (cs : List Child) (i : ℕ) where

@@ -1,4 +1,4 @@
--- `exports::put_pushed` meets its contract: sixteen stores are one.
+-- `exports::put_pushed` meets its contract: seventeen stores are one.
 use Prim.Native.Nat.{ℕ}
 use mathlib.Core.Path.{ap, _∙_}
 use mathlib.Core.List.{List}
@@ -39,11 +39,11 @@ returns c =
     let answer = c .before .before .before .before .before .before .before .before .before .before .before .before .before .before .before .put-answer .ensures in
     let code = c .before .before .before .before .before .before .before .before .before .before .before .before .push-code .ensures in
     c .before .before .put643 .ensures
-    ∙ ap (λ (o : List ℕ). sets o 120 (beBytes 8 (a .kept)))
+    ∙ ap (λ (o : List ℕ). sets o 128 (beBytes 8 (a .kept)))
     (c .before .before .before .before .before .before .put642 .ensures
-    ∙ ap (λ (o : List ℕ). sets o 112 (beBytes 8 (a .taken)))
+    ∙ ap (λ (o : List ℕ). sets o 120 (beBytes 8 (a .taken)))
     (c .before .before .before .before .before .before .before .before .before .before .put64 .ensures
-    ∙ (λ i. sets ((answer ∙ ap (λ (x : Answer). sets (a .out .now) 0 (answerBytes x)) read) i) 104 (beBytes 8 (code i)))))
+    ∙ (λ i. sets ((answer ∙ ap (λ (x : Answer). sets (a .out .now) 0 (answerBytes x)) read) i) 112 (beBytes 8 (code i)))))
     ∙ pushed-stored (a .out .now) (a .answer) (a .taken) (a .kept)
 
 pub put-pushed-spec : {M : Type 1} → statement M

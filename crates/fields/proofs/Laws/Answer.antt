@@ -1,17 +1,44 @@
--- A writer's answer and its buffer: with no fault, and with one.
+-- The answer of a check; a writer's answer and its buffer: with no fault, and with one.
 use Prim.Native.Nat.{ℕ, zero, suc, _≤_, _<_}
 use mathlib.Core.Path.{_≡_, refl, sym, ap, _∙_}
-use mathlib.Core.Bool.{Bool, cond}
+use mathlib.Core.Bool.{Bool, true, false, cond, _&&_}
 use mathlib.Core.List.{List, _++_}
 use native.Mathlib.Omega.{arith}
 use lib.ListN.{length, drop}
 use lib.Seq.{sets}
 use lib.Dec.{leb}
 use borrow.Author.Tests.{eq-eqb, ne-eqb, le-leb, lt-leb, leb-true}
+use Rattle.fields.specs.declared.Checked.{Checked}
 use Rattle.fields.specs.declared.Written.the-variants.{Wrote, Refused}
-use Rattle.fields.specs.Answer.{writtenNumber, writtenOf, roomFault, outAfter}
+use Rattle.fields.specs.Answer.{checked, writtenNumber, writtenOf, roomFault, outAfter}
 use Rattle.fields.proofs.Laws.Checks.{cond-pass}
 use Rattle.fields.proofs.Laws.Stores.{sets-front}
+
+-- ---- a check
+
+pub checked-passed : (n : ℕ) (mark : Bool) → n ≡ 0 → checked n mark ≡ record { number = n; clean = mark }
+unfolding checked
+checked-passed n mark e = ap {B = Checked} (λ (t : Bool). record { number = n; clean = t && mark }) (eq-eqb n 0 e)
+
+pub checked-refused : (n : ℕ) (mark : Bool) → (n ≡ 0 → ⊥) → checked n mark ≡ record { number = n; clean = false }
+unfolding checked
+checked-refused n mark e = ap {B = Checked} (λ (t : Bool). record { number = n; clean = t && mark }) (ne-eqb n 0 e)
+
+pub checked-number : (n : ℕ) (mark : Bool) → checked n mark .number ≡ n
+unfolding checked
+checked-number n mark = refl
+
+pub checked-mark : (n : ℕ) (mark : Bool) → n ≡ 0 → checked n mark .clean ≡ mark
+checked-mark n mark e = ap (λ (c : Checked). c .clean) (checked-passed n mark e)
+
+pub checked-false : (n : ℕ) (mark : Bool) → (n ≡ 0 → ⊥) → checked n mark .clean ≡ false
+checked-false n mark e = ap (λ (c : Checked). c .clean) (checked-refused n mark e)
+
+-- a refusal's mark does not depend on the texts
+pub checked-same : (n m : ℕ) (a b : Bool) → n ≡ m → (n ≡ 0 → ⊥) → checked n a ≡ checked m b
+checked-same n m a b e k = checked-refused n a k ∙ ap {B = Checked} (λ (x : ℕ). record { number = x; clean = false }) e ∙ sym (checked-refused m b (λ z. k (e ∙ z)))
+
+-- ---- a writer
 
 pub written-wrote : (fault n : ℕ) → fault ≡ 0 → writtenOf fault n ≡ Wrote n
 unfolding writtenOf

@@ -1,20 +1,24 @@
 -- Checks 1, 2 and 3: what passes each of them, and what is handed out then.
 use Prim.Native.Nat.{ℕ, _<_, _≤_}
-use mathlib.Core.Path.{_≡_, sym, ap, _∙_}
+use mathlib.Core.Path.{_≡_, sym, ap, ap₂, _∙_}
 use mathlib.Core.Bool.{Bool, true, cond, _&&_}
 use mathlib.Core.List.{List}
 use lib.Dec.{leb}
 use lib.ListN.{length}
 use borrow.Author.Tests.{leb-true, le-leb, lt-leb, eq-eqb, ne-eqb}
 use Rattle.fields.specs.Bytes.{part}
-use Rattle.fields.specs.Text.{isText, fieldOk}
+use Rattle.fields.specs.Text.{isText, allZero, textOk, fieldOk}
+use Rattle.fields.specs.declared.Checked.{Checked}
+use Rattle.fields.specs.Answer.{checked}
 use Rattle.fields.specs.Checks.{orElse}
 use Rattle.fields.proofs.Laws.Checks.{cond-pass, cond-refused, and-split, and-join, zero-else, else-first, else-fault, else-second}
+use Rattle.fields.proofs.Laws.Answer.{checked-number, checked-mark, checked-same}
+use Rattle.fields.proofs.Laws.Received.{fieldOk-rest}
 use Rattle.fields.proofs.Laws.Tests.{by-zero}
 use Rattle.fields.proofs.Laws.Text.{is-text, text-is}
 use Rattle.header.specs.declared.HeaderRead.{HeaderRead}
 use Rattle.header.specs.Header.{WellTexts, limit}
-use Rattle.header.specs.Check.{headerOf, shortFault, textsFault, limitFault, headerFault, handed, refused, headerRead, namesFault}
+use Rattle.header.specs.Check.{headerOf, shortFault, textsFault, textsClean, textsChecked, limitFault, headerFault, headerChecked, handedWith, handed, refused, headerRead, namesFault}
 
 -- ---- check 1
 
@@ -32,18 +36,18 @@ short-passed s h = leb-true 58 (length s) (cond-pass (leb 58 (length s)) 0 0 h .
 
 -- ---- check 2 of the reader
 
-pub texts-pass : (s : List ℕ) → fieldOk (part 12 2 s) ≡ true → fieldOk (part 20 14 s) ≡ true → textsFault s ≡ 0
+pub texts-pass : (s : List ℕ) → textOk (part 12 2 s) ≡ true → textOk (part 20 14 s) ≡ true → textsFault s ≡ 0
 unfolding textsFault
-texts-pass s t n = ap (λ (b : Bool). cond b 0 2) (and-join (fieldOk (part 12 2 s)) (fieldOk (part 20 14 s)) t n)
+texts-pass s t n = ap (λ (b : Bool). cond b 0 2) (and-join (textOk (part 12 2 s)) (textOk (part 20 14 s)) t n)
 
-pub texts-passed : (s : List ℕ) → textsFault s ≡ 0 → (fieldOk (part 12 2 s) ≡ true) × (fieldOk (part 20 14 s) ≡ true)
+pub texts-passed : (s : List ℕ) → textsFault s ≡ 0 → (textOk (part 12 2 s) ≡ true) × (textOk (part 20 14 s) ≡ true)
 unfolding textsFault
 texts-passed s h =
-    and-split (fieldOk (part 12 2 s)) (fieldOk (part 20 14 s)) (cond-pass (fieldOk (part 12 2 s) && fieldOk (part 20 14 s)) 1 0 h .0)
+    and-split (textOk (part 12 2 s)) (textOk (part 20 14 s)) (cond-pass (textOk (part 12 2 s) && textOk (part 20 14 s)) 1 0 h .0)
 
 pub texts-refused : (s : List ℕ) → (textsFault s ≡ 0 → ⊥) → textsFault s ≡ 2
 unfolding textsFault
-texts-refused s h = cond-refused (fieldOk (part 12 2 s) && fieldOk (part 20 14 s)) 2 h
+texts-refused s h = cond-refused (textOk (part 12 2 s) && textOk (part 20 14 s)) 2 h
 
 -- ---- check 2 of the writer
 
@@ -94,8 +98,8 @@ limit-refused n h = ap (λ (t : Bool). cond t 0 3) (lt-leb n limit h)
 -- what a stream whose front is accepted as a header satisfies
 pub record Passed (s : List ℕ) : Type 0 where
   pub long : 58 ≤ length s
-  pub type-ok : fieldOk (part 12 2 s) ≡ true
-  pub name-ok : fieldOk (part 20 14 s) ≡ true
+  pub type-ok : textOk (part 12 2 s) ≡ true
+  pub name-ok : textOk (part 20 14 s) ≡ true
   pub size-limit : headerOf s .bodySize ≤ limit
 
 pub fault-passed : (s : List ℕ) → headerFault s ≡ 0 → Passed s
@@ -126,6 +130,48 @@ fault-texts s h k = fault-long s h ∙ else-first (textsFault s) (limitFault (he
 
 pub fault-limit : (s : List ℕ) → 58 ≤ length s → textsFault s ≡ 0 → headerFault s ≡ limitFault (headerOf s .bodySize)
 fault-limit s h k = fault-long s h ∙ else-second (textsFault s) (limitFault (headerOf s .bodySize)) k
+
+-- ---- number and mark
+
+pub texts-number : (s : List ℕ) → textsChecked s .number ≡ textsFault s
+unfolding textsChecked
+texts-number s = checked-number (textsFault s) (textsClean s)
+
+pub texts-mark : (s : List ℕ) → textsFault s ≡ 0 → textsChecked s .clean ≡ textsClean s
+unfolding textsChecked
+texts-mark s e = checked-mark (textsFault s) (textsClean s) e
+
+pub texts-as : (s : List ℕ) (n : ℕ) (b : Bool) → textsFault s ≡ n → (n ≡ 0 → ⊥) → checked n b ≡ textsChecked s
+unfolding textsChecked
+texts-as s n b e k = checked-same n (textsFault s) b (textsClean s) (sym e) k
+
+pub texts-clean : (s : List ℕ) (b : Bool) → textsFault s ≡ 0 → b ≡ textsClean s → checked 0 b ≡ textsChecked s
+unfolding textsChecked
+texts-clean s b e m = ap₂ checked (sym e) m
+
+pub header-checked-number : (s : List ℕ) → headerChecked s .number ≡ headerFault s
+unfolding headerChecked
+header-checked-number s = checked-number (headerFault s) (textsClean s)
+
+pub header-as : (s : List ℕ) (n : ℕ) (b : Bool) → n ≡ headerFault s → (n ≡ 0 → ⊥) → checked n b ≡ headerChecked s
+unfolding headerChecked
+header-as s n b e k = checked-same n (headerFault s) b (textsClean s) e k
+
+pub header-clean : (s : List ℕ) (n : ℕ) (b : Bool) → n ≡ headerFault s → b ≡ textsClean s → checked n b ≡ headerChecked s
+unfolding headerChecked
+header-clean s n b e m = ap₂ checked e m
+
+-- texts that are refused are the header's answer
+pub texts-stop : (s : List ℕ) → 58 ≤ length s → (textsFault s ≡ 0 → ⊥) → textsChecked s ≡ headerChecked s
+unfolding textsChecked
+texts-stop s h k = header-as s (textsFault s) (textsClean s) (sym (fault-long s h ∙ else-first (textsFault s) (limitFault (headerOf s .bodySize)) k)) k
+
+-- of an accepted header the mark is that of the two rests
+pub rests-mark : (s : List ℕ) → headerFault s ≡ 0 → headerChecked s .clean ≡ (allZero (headerOf s .typeRest) && allZero (headerOf s .nameRest))
+unfolding headerChecked textsClean headerOf
+rests-mark s e =
+    let p = fault-passed s e in
+    checked-mark (headerFault s) (textsClean s) e ∙ ap₂ _&&_ (fieldOk-rest (part 12 2 s) (p .type-ok)) (fieldOk-rest (part 20 14 s) (p .name-ok))
 
 -- ---- what the reader hands out
 

@@ -8,7 +8,8 @@ use lib.Dec.{leb}
 use lib.ListN.{length, take, length-take}
 use borrow.Author.Tests.{leb-true, leb-false, le-leb, lt-leb}
 use Rattle.fields.specs.Numbers.{beVal}
-use Rattle.fields.specs.Text.{textOf, fieldOk}
+use Rattle.fields.specs.Text.{textOf, textOk}
+use Rattle.fields.specs.Received.{restOf}
 use Rattle.fields.specs.Checks.{orElse}
 use Rattle.fields.proofs.Laws.Bytes.{front-part}
 use Rattle.fields.proofs.Laws.Tests.{by-test, by-zero}
@@ -23,7 +24,9 @@ module _ (s t : List ℕ) (e : take 58 s ≡ take 58 t) where
       record {
         version = beVal (front-part 58 2 0 s t (omega arith) e i);
         typeText = textOf (front-part 58 12 2 s t (omega arith) e i);
+        typeRest = restOf (front-part 58 12 2 s t (omega arith) e i);
         deviceName = textOf (front-part 58 20 14 s t (omega arith) e i);
+        nameRest = restOf (front-part 58 20 14 s t (omega arith) e i);
         timeStamp = beVal (front-part 58 8 34 s t (omega arith) e i);
         bodySize = beVal (front-part 58 8 42 s t (omega arith) e i);
         crc = beVal (front-part 58 8 50 s t (omega arith) e i);
@@ -32,7 +35,7 @@ module _ (s t : List ℕ) (e : take 58 s ≡ take 58 t) where
   texts-front : textsFault s ≡ textsFault t
   unfolding textsFault
   texts-front =
-      ap₂ (λ (x y : List ℕ). cond (fieldOk x && fieldOk y) 0 2) (front-part 58 12 2 s t (omega arith) e) (front-part 58 20 14 s t (omega arith) e)
+      ap₂ (λ (x y : List ℕ). cond (textOk x && textOk y) 0 2) (front-part 58 12 2 s t (omega arith) e) (front-part 58 20 14 s t (omega arith) e)
 
   short-front : shortFault s ≡ shortFault t
   unfolding shortFault

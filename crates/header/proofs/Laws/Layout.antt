@@ -7,10 +7,12 @@ use lib.ListN.{length, take, drop, length-append}
 use lib.Seq.{sets, take-take}
 use Rattle.fields.specs.Bytes.{Bytes, part}
 use Rattle.fields.specs.Numbers.{beVal, beBytes, beAt}
-use Rattle.fields.specs.Text.{textOf, fieldOk, textBytes}
+use Rattle.fields.specs.Text.{textOf, textOk}
+use Rattle.fields.specs.Received.{restOf, fieldBytes, Fills}
 use Rattle.fields.specs.Layout.{join, cut, Widths, stores}
 use Rattle.fields.proofs.Laws.Numbers.{length-beBytes, beVal-beBytes, beAt-lt, beBytes-beAt}
-use Rattle.fields.proofs.Laws.Text.{length-textBytes, textOf-textBytes, fieldOk-textBytes, field-halves, text-ok, text-take, textBytes-part, length-textOf-part}
+use Rattle.fields.proofs.Laws.Text.{text-take, length-textOf-part}
+use Rattle.fields.proofs.Laws.Received.{length-fieldBytes, textOk-field, textOf-field, restOf-field, fills-part, fieldBytes-part}
 use Rattle.fields.proofs.Laws.Layout.{length-join, join-cut, cut-join}
 use Rattle.fields.proofs.Laws.Stores.{stores-join}
 use Rattle.header.specs.Header.{Header, headerWidths, headerFields, encodeHeader, WellTexts, HeaderFits, WellHeader}
@@ -23,9 +25,9 @@ header-widths : (h : Header) → Widths (headerFields h) headerWidths
 header-widths h = (
   length-beBytes 2 (h .version),
   (
-    length-textBytes 12 (h .typeText),
+    length-fieldBytes 12 (h .typeText) (h .typeRest),
     (
-      length-textBytes 20 (h .deviceName),
+      length-fieldBytes 20 (h .deviceName) (h .nameRest),
       (length-beBytes 8 (h .timeStamp), (length-beBytes 8 (h .bodySize), (length-beBytes 8 (h .crc), tt))),
     ),
   ),
@@ -40,13 +42,23 @@ pub stores-header : (h : Header) (out : List ℕ) → stores out 0 (headerFields
 unfolding encodeHeader
 stores-header h out = stores-join out 0 (headerFields h) headerWidths (header-widths h)
 
+-- the two texts, as a writer takes them
+pub fits-texts : (h : Header) → HeaderFits h → WellTexts (h .typeText) (h .deviceName)
+fits-texts h f =
+    record {
+      type-text = f .type-fills .text;
+      type-fits = omega (arith, f .type-fills .width);
+      name-text = f .name-fills .text;
+      name-fits = omega (arith, f .name-fills .width);
+    }
+
 -- ---- what was written is read, for a size above the limit too
 
 -- what stands at each place of a stream that begins with a header
 record Front (h : Header) (s : List ℕ) : Type 0 where
   version-at : part 2 0 s ≡ beBytes 2 (h .version)
-  type-at : part 12 2 s ≡ textBytes 12 (h .typeText)
-  name-at : part 20 14 s ≡ textBytes 20 (h .deviceName)
+  type-at : part 12 2 s ≡ fieldBytes 12 (h .typeText) (h .typeRest)
+  name-at : part 20 14 s ≡ fieldBytes 20 (h .deviceName) (h .nameRest)
   stamp-at : part 8 34 s ≡ beBytes 8 (h .timeStamp)
   size-at : part 8 42 s ≡ beBytes 8 (h .bodySize)
   crc-at : part 8 50 s ≡ beBytes 8 (h .crc)
@@ -65,8 +77,10 @@ header-read h rest f =
     λ i.
     record {
       version = (ap beVal (p .version-at) ∙ beVal-beBytes 2 (h .version) (f .version-fits)) i;
-      typeText = (ap textOf (p .type-at) ∙ textOf-textBytes 12 (h .typeText) (f .texts .type-text) (f .texts .type-fits)) i;
-      deviceName = (ap textOf (p .name-at) ∙ textOf-textBytes 20 (h .deviceName) (f .texts .name-text) (f .texts .name-fits)) i;
+      typeText = (ap textOf (p .type-at) ∙ textOf-field 12 (h .typeText) (h .typeRest) (f .type-fills)) i;
+      typeRest = (ap restOf (p .type-at) ∙ restOf-field 12 (h .typeText) (h .typeRest) (f .type-fills)) i;
+      deviceName = (ap textOf (p .name-at) ∙ textOf-field 20 (h .deviceName) (h .nameRest) (f .name-fills)) i;
+      nameRest = (ap restOf (p .name-at) ∙ restOf-field 20 (h .deviceName) (h .nameRest) (f .name-fills)) i;
       timeStamp = (ap beVal (p .stamp-at) ∙ beVal-beBytes 8 (h .timeStamp) (f .stamp-fits)) i;
       bodySize = (ap beVal (p .size-at) ∙ beVal-beBytes 8 (h .bodySize) (f .size-fits)) i;
       crc = (ap beVal (p .crc-at) ∙ beVal-beBytes 8 (h .crc) (f .crc-fits)) i;
@@ -78,8 +92,8 @@ header-number h rest f =
     let long : 58 ≤ length (encodeHeader h ++ rest) = omega (arith, length-append (encodeHeader h) rest, length-header h) in
     let texts =
     texts-pass (encodeHeader h ++ rest)
-    (ap fieldOk (p .type-at) ∙ fieldOk-textBytes 12 (h .typeText) (f .texts .type-text) (f .texts .type-fits))
-    (ap fieldOk (p .name-at) ∙ fieldOk-textBytes 20 (h .deviceName) (f .texts .name-text) (f .texts .name-fits)) in
+    (ap textOk (p .type-at) ∙ textOk-field 12 (h .typeText) (h .typeRest) (f .type-fills))
+    (ap textOk (p .name-at) ∙ textOk-field 20 (h .deviceName) (h .nameRest) (f .name-fills)) in
     fault-limit (encodeHeader h ++ rest) long texts ∙ ap (λ (g : Header). limitFault (g .bodySize)) (header-read h rest f)
 
 -- ---- what is accepted is written back, and is well formed
@@ -90,8 +104,8 @@ header-back s b h =
     let p = fault-passed s h in
     let long = p .long in
     let version : beBytes 2 (beAt 2 0 s) ≡ part 2 0 s = beBytes-beAt 2 0 s b (omega arith) in
-    let type : textBytes 12 (textOf (part 12 2 s)) ≡ part 12 2 s = textBytes-part 12 2 s (omega arith) (field-halves (part 12 2 s) (p .type-ok) .1) in
-    let name : textBytes 20 (textOf (part 20 14 s)) ≡ part 20 14 s = textBytes-part 20 14 s (omega arith) (field-halves (part 20 14 s) (p .name-ok) .1) in
+    let type : fieldBytes 12 (textOf (part 12 2 s)) (restOf (part 12 2 s)) ≡ part 12 2 s = fieldBytes-part 12 2 s (omega arith) in
+    let name : fieldBytes 20 (textOf (part 20 14 s)) (restOf (part 20 14 s)) ≡ part 20 14 s = fieldBytes-part 20 14 s (omega arith) in
     let stamp : beBytes 8 (beAt 8 34 s) ≡ part 8 34 s = beBytes-beAt 8 34 s b (omega arith) in
     let size : beBytes 8 (beAt 8 42 s) ≡ part 8 42 s = beBytes-beAt 8 42 s b (omega arith) in
     let crc : beBytes 8 (beAt 8 50 s) ≡ part 8 50 s = beBytes-beAt 8 50 s b (omega arith) in
@@ -102,18 +116,13 @@ pub header-fits : (s : List ℕ) → Bytes s → headerFault s ≡ 0 → WellHea
 unfolding headerOf
 header-fits s b h =
     let p = fault-passed s h in
-    let texts : WellTexts (textOf (part 12 2 s)) (textOf (part 20 14 s)) =
-    record {
-      type-text = text-ok (part 12 2 s) (field-halves (part 12 2 s) (p .type-ok) .0);
-      type-fits = length-textOf-part 12 2 s;
-      name-text = text-ok (part 20 14 s) (field-halves (part 20 14 s) (p .name-ok) .0);
-      name-fits = length-textOf-part 20 14 s;
-    } in
+    let long = p .long in
     record {
       fits =
           record {
             version-fits = beAt-lt 2 0 s b;
-            texts = texts;
+            type-fills = fills-part 12 2 s b (omega arith) (p .type-ok);
+            name-fills = fills-part 20 14 s b (omega arith) (p .name-ok);
             stamp-fits = beAt-lt 8 34 s b;
             size-fits = beAt-lt 8 42 s b;
             crc-fits = beAt-lt 8 50 s b;

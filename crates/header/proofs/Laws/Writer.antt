@@ -1,17 +1,20 @@
 -- The writer of a header: its faults in order, its answer and the buffer that it leaves.
 use Prim.Native.Nat.{ℕ, _≤_}
-use mathlib.Core.Path.{_≡_, ap, sym, _∙_}
-use mathlib.Core.List.{List, _++_}
+use mathlib.Core.Path.{_≡_, ap, ap₂, sym, _∙_}
+use mathlib.Core.List.{List, [], _∷_, _++_}
 use native.Mathlib.Omega.{arith}
 use lib.ListN.{length, drop}
 use Rattle.fields.specs.declared.Written.the-variants.{Wrote, Refused}
 use Rattle.fields.specs.Checks.{orElse}
+use Rattle.fields.specs.Numbers.{beBytes}
 use Rattle.fields.specs.Layout.{stores}
 use Rattle.fields.specs.Answer.{roomFault}
 use Rattle.fields.proofs.Laws.Checks.{zero-else, else-first, else-second}
 use Rattle.fields.proofs.Laws.Answer.{written-wrote, written-refused, room-fits, out-wrote, out-refused, out-sets}
+use Rattle.fields.proofs.Laws.Received.{fieldBytes-zeros}
+use Rattle.header.specs.declared.HeaderFields.{HeaderFields}
 use Rattle.header.specs.Header.{Header, headerWidths, headerFields, encodeHeader}
-use Rattle.header.specs.Check.{limitFault, namesFault, writeFault, headerWritten, headerOut}
+use Rattle.header.specs.Check.{limitFault, namesFault, given, givenFields, writeFault, headerWritten, headerOut}
 use Rattle.header.proofs.Laws.Layout.{length-header, stores-header}
 
 -- ---- the faults
@@ -68,11 +71,23 @@ write-refused h out n e k =
     let some : writeFault h (length out) ≡ 0 → ⊥ = λ z. k (e ∙ z) in
     (ap Refused e ∙ sym (answer-refused h (length out) some), sym (out-kept h out some))
 
+-- the fields that it stores are those of the header given
+given-fields : (f : HeaderFields) (t n : List ℕ) → givenFields f t n ≡ headerFields (given f t n)
+given-fields f t n =
+    ap₂ {C = List (List ℕ)} (λ (x y : List ℕ). beBytes 2 (f .version) ∷ x ∷ y ∷ beBytes 8 (f .«time_stamp») ∷ beBytes 8 (f .«body_size») ∷ beBytes 8 (f .crc) ∷ [])
+    (sym (fieldBytes-zeros 12 t)) (sym (fieldBytes-zeros 20 n))
+
 -- and stored the fields in turn
-pub write-wrote : (h : Header) (out left : List ℕ) (n : ℕ) → n ≡ writeFault h (length out) → n ≡ 0 → left ≡ stores out 0 (headerFields h) headerWidths
+write-wrote : (h : Header) (out left : List ℕ) (n : ℕ) → n ≡ writeFault h (length out) → n ≡ 0 → left ≡ stores out 0 (headerFields h) headerWidths
     → (Wrote 58 ≡ headerWritten h (length out)) × (left ≡ headerOut h out)
 unfolding headerOut
 write-wrote h out left n e z l =
     let none : writeFault h (length out) ≡ 0 = sym e ∙ z in
     let room : length (encodeHeader h) ≤ length out = omega (arith, length-header h, write-fits h (length out) none) in
     (sym (answer-wrote h (length out) none), l ∙ stores-header h out ∙ out-sets (writeFault h (length out)) (encodeHeader h) out none room)
+
+pub write-given : (f : HeaderFields) (t n out left : List ℕ) (k : ℕ) → k ≡ writeFault (given f t n) (length out) → k ≡ 0
+    → left ≡ stores out 0 (givenFields f t n) headerWidths
+    → (Wrote 58 ≡ headerWritten (given f t n) (length out)) × (left ≡ headerOut (given f t n) out)
+write-given f t n out left k e z l =
+    write-wrote (given f t n) out left k e z (l ∙ ap (λ (x : List (List ℕ)). stores out 0 x headerWidths) (given-fields f t n))

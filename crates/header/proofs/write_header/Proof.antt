@@ -1,6 +1,6 @@
 -- `header::write_header` meets its contract: the fault, or the stores of the fields.
 use borrow.Author.Needs.{needs}
-use Rattle.header.proofs.Laws.Writer.{write-refused, write-wrote}
+use Rattle.header.proofs.Laws.Writer.{write-refused, write-given}
 use Rattle.header.proofs.write_header.Statement.{statement}
 use Rattle.header.proofs.write_header.Tie as tie
 
@@ -17,7 +17,7 @@ same-length : tie.Need-same-length
 same-length c = search needs
 
 returns-2 : tie.Need-returns-2
-returns-2 c = write-wrote _ _ _ _ (c .before .before .before .before .before .write-fault .ensures) (c .before .before .before .before .if1 .left) (c .before .before .put-header .ensures)
+returns-2 c = write-given _ _ _ _ _ _ (c .before .before .before .before .before .write-fault .ensures) (c .before .before .before .before .if1 .left) (c .before .before .put-header .ensures)
 
 pub write-header-spec : {M : Type 1} → statement M
 write-header-spec =

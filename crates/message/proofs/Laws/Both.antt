@@ -14,14 +14,14 @@ use Rattle.message.specs.declared.Layout.{Layout}
 use Rattle.message.specs.declared.Layout.the-variants.{New, Old}
 use Rattle.message.specs.Body.{Sections, extendedNumbers, MetadataFits, WellSections, encodeBody}
 use Rattle.message.specs.Message.{Message, WellFormed, Parts, partsOf, encodeWith, encode}
-use Rattle.message.specs.Check.{bodyFault, sizesFault, foundFault, placesOf, bodyChecks, numberOf, readOf}
+use Rattle.message.specs.Check.{bodyFault, sizesFault, foundFault, placesOf, bodyChecks, bodyClean, numberOf, readOf}
 use Rattle.message.specs.Writer.{fits, fitFault, sectionsChecks, writeChecks, writeFault, messageWritten, messageOut}
 use Rattle.message.specs.Both.{Both}
 use Rattle.message.proofs.Laws.Body.{length-1, length-2}
 
 module _ (l o : Layout) where
   same-read : (s : List ℕ) → (headerOf s .version ≡ 2 → ⊥) → readOf l s ≡ readOf o s
-  unfolding readOf numberOf bodyChecks foundFault sizesFault bodyFault placesOf
+  unfolding readOf numberOf bodyChecks bodyClean foundFault sizesFault bodyFault placesOf
   same-read s h = rw (ne-eqb (headerOf s .version) 2 h) refl
 
   same-written : (p : Parts) (room : ℕ) → (p .version ≡ 2 → ⊥) → messageWritten l p room ≡ messageWritten o p room
@@ -75,7 +75,8 @@ both-well l o m n w =
     let k : ℕ = indexSize (m .metadata) in
     let x : Sections = partsOf m .sections in
     record {
-      texts = w .texts;
+      type-fills = w .type-fills;
+      name-fills = w .name-fills;
       stamp-fits = w .stamp-fits;
       sections = same-sections l o (m .version) k x (index-within (m .metadata) (w .metadata)) n (w .sections);
       content = w .content;

@@ -1,7 +1,7 @@
 -- A message's answer depends on its own bytes alone.
 use Prim.Native.Nat.{ℕ, _+_, _<_, _≤_}
 use mathlib.Core.Path.{_≡_, sym, ap, ap₂, _∙_}
-use mathlib.Core.Bool.{cond}
+use mathlib.Core.Bool.{cond, _&&_}
 use mathlib.Core.List.{List}
 use native.Mathlib.Omega.{arith}
 use lib.Dec.{eqb}
@@ -16,7 +16,7 @@ use Rattle.header.specs.Check as header
 use Rattle.header.specs.Check.{headerOf, headerFault}
 use Rattle.header.proofs.Laws.Front.{header-front, fault-front}
 use Rattle.message.specs.declared.Layout.{Layout}
-use Rattle.message.specs.Check.{bodyChecks, bodyAt, frontFault, numberOf, stepOf, placesOf, refused, accepted, readOf}
+use Rattle.message.specs.Check.{bodyChecks, bodyClean, bodyAt, frontFault, numberOf, stepOf, placesOf, refused, accepted, readOf}
 use Rattle.message.proofs.Laws.Stream.{is-some, whole-pass, whole-passed, whole-refused, step-whole, read-step}
 use Rattle.message.proofs.Laws.Read.{front-refused}
 
@@ -74,4 +74,7 @@ module _ (s t : List ℕ) (z : frontFault s ≡ 0) (e : take (58 + headerOf s .b
   unfolding readOf
   read-front l =
       let h = header-front s t same-header in
-      λ i. cond (eqb (same-number l i) 0) (accepted (header.handed (h i)) (placesOf l (h i .version) (same-body i))) (refused (same-number l i) (same-step i))
+      λ i.
+      cond (eqb (same-number l i) 0)
+      (accepted (header.handed (h i)) (placesOf l (h i .version) (same-body i)) (header.handed (h i) .clean && bodyClean l (h i .version) (h i .typeText) (same-body i)))
+      (refused (same-number l i) (same-step i))

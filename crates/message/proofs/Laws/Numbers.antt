@@ -1,46 +1,58 @@
 -- Which number the reader and the writer give, in the order of their checks.
-use Prim.Native.Nat.{ℕ, zero, suc, _+_, _<_, _≤_}
+use Prim.Native.Nat.{ℕ, zero, suc, _+_, _-_, _^_, _<_, _≤_}
 use mathlib.Core.Path.{_≡_, refl, sym, ap, ap₂, _∙_, subst}
 use mathlib.Core.Logic.{inl, inr, ⊎-elim}
-use mathlib.Core.Bool.{true, false}
-use mathlib.Core.List.{List, [], append-nil}
+use mathlib.Core.Bool.{true, false, cond, _&&_}
+use mathlib.Core.List.{List, [], _++_, append-nil}
 use native.Mathlib.Omega.{arith}
 use native.Mathlib.Nat.{lt-of-not-le}
-use lib.ListN.{length}
+use lib.ListN.{length, drop}
 use Rattle.fields.specs.Bytes.{Bytes}
 use Rattle.fields.specs.Checks.{orElse}
 use Rattle.fields.specs.Answer.{writtenNumber, writtenCount, roomFault}
+use Rattle.fields.specs.Received.{Fills}
 use Rattle.fields.proofs.Laws.Bytes.{bytes-part}
-use Rattle.fields.proofs.Laws.Checks.{zero-else, else-fault, else-second, else-same}
+use Rattle.fields.proofs.Laws.Checks.{zero-else, else-zero, else-fault, else-second, else-same, and-join}
+use Rattle.fields.specs.Text.{allZero}
+use Rattle.fields.proofs.Laws.Text.{all-zeros}
 use Rattle.fields.proofs.Laws.Tests.{by-test, by-zero, is-false, true-false}
 use Rattle.fields.proofs.Laws.Answer.{written-wrote, written-number, out-wrote, out-refused}
 use Rattle.crc64.specs.Crc.{crcOf}
 use Rattle.crc64.proofs.Laws.{crc-lt}
 use Rattle.header.specs.declared.HeaderRead.{HeaderRead}
 use Rattle.header.specs.Header.{Header, WellTexts, HeaderFits, limit}
-use Rattle.header.specs.Check.{headerOf, headerFault, headerRead, limitFault}
+use Rattle.header.specs.Check.{headerOf, headerFault, headerRead, namesFault, limitFault}
 use Rattle.header.specs.Check as header
 use Rattle.header.specs.Headers.{BeginsWith}
 use Rattle.metadata.specs.Check.{metadataFault}
 use Rattle.metadata.specs.Metadatas.{IsMetadata}
-use Rattle.content.specs.Check.{contentFault, deepest}
+use Rattle.content.specs.Check.{contentFault, contentClean, deepest}
+use Rattle.content.specs.Tree.{Content, typeText, cleaned, IsClean}
+use Rattle.content.specs.Tree as tree
+use Rattle.content.specs.Contents.{IsContent}
+use Rattle.content.proofs.Contents.{contents}
+use Rattle.content.proofs.Laws.Cleaned.{cleaned-type}
+use Rattle.content.proofs.Laws.Marks.{content-mark, mark-from}
+use Rattle.cleaning.specs.Clean.{cleanBytes}
+use Rattle.cleaning.proofs.Laws.Cleanings.{cleanings}
 use Rattle.message.specs.declared.Layout.{Layout}
 use Rattle.message.specs.declared.body.Places.{Places}
 use Rattle.message.specs.Body.{Sections, Plain, MetadataFits, WellSections}
 use Rattle.message.specs.Message.{Parts, headerFor}
 use Rattle.message.specs.Check.{refused, versionFault, bodyFault, sizesFault, sectionsFault, foundFault, placesOf, sectionsOf, bodyChecks, bodyAt, frontFault, numberOf, readOf}
-use Rattle.message.specs.Writer.{bodyGiven, encodeParts, fitOk, sectionsChecks, writeChecks, writeFault, messageWritten, messageOut}
+use Rattle.message.specs.Writer.{bodyGiven, encodeParts, cleanParts, fitOk, fitFault, sectionsChecks, writeChecks, writeFault, messageWritten, messageOut}
 use Rattle.message.specs.Bodies.{IsVersion, BreaksExtended, Agrees}
 use Rattle.message.specs.Numbers.{Whole, Sound, LaidOut, numberAndStep, Refusals, Given, Unfit, HasIndex, ReadBack, WriterNumbers}
 use Rattle.header.proofs.Laws.Layout.{header-read, header-number}
 use Rattle.header.proofs.Laws.Faults.{names-pass, names-passed, names-broken, limit-pass, limit-passed, header-read-number}
 use Rattle.header.proofs.Laws.Headers.{headers}
 use Rattle.metadata.proofs.Laws.Metadatas.{metadatas}
+use Rattle.message.proofs.Laws.Rests.{zero-fills}
 use Rattle.message.proofs.Laws.Layout.{fit-metadata, unfit-size, fit-size}
 use Rattle.message.proofs.Laws.Body.{body-well, body-read, body-agreed, body-disagreed, sizes-seven, extended-refused, length-2}
-use Rattle.message.proofs.Laws.Stream.{is-some, whole-refused, version-pass, version-passed, version-refused, checks-version, checks-crc, checks-body, checks-rest, whole-header, whole-body, whole-front, read-refused, read-number, partsAt, handed-parts, number-read, indexOf}
+use Rattle.message.proofs.Laws.Stream.{is-some, whole-refused, version-pass, version-passed, version-refused, checks-version, checks-crc, checks-body, checks-rest, whole-header, whole-body, whole-front, read-refused, read-number, partsAt, zeroTexts, handed-parts, cleanFor, read-mark, number-read, indexOf}
 use Rattle.message.proofs.Laws.Read.{front-refused, header-refused, body-refused}
-use Rattle.message.proofs.Laws.Writer.{plain-pass, plain-passed, sizes-pass, sizes-passed, written-index, fit-passed, well-fit, sections-version, sections-unfit, sections-rest, write-names, write-texts, write-limit, write-rest, parts-number, checks-sections, writable, parts-read}
+use Rattle.message.proofs.Laws.Writer.{plain-pass, plain-passed, sizes-pass, sizes-passed, written-index, fit-passed, well-fit, sections-version, sections-unfit, sections-rest, write-names, write-texts, write-limit, write-rest, parts-number, checks-sections, writable, length-cleaned-body, length-cleaned, parts-read}
 
 -- ---- a refusal before a step is known
 
@@ -241,7 +253,14 @@ same-checks l p g h i n =
 
 given-header : (l : Layout) (p : Parts) → Given l p → WellTexts (p .typeText) (p .deviceName) → HeaderFits (headerFor l (indexOf p) p)
 given-header l p g t =
-    record { version-fits = g .version-fits; texts = t; stamp-fits = g .stamp-fits; size-fits = g .body-fits; crc-fits = crc-lt (bodyGiven l p) }
+    record {
+      version-fits = g .version-fits;
+      type-fills = subst (Fills 12 (p .typeText)) (sym (g .type-zeros)) (zero-fills 12 (p .typeText) (t .type-text) (t .type-fits));
+      name-fills = subst (Fills 20 (p .deviceName)) (sym (g .name-zeros)) (zero-fills 20 (p .deviceName) (t .name-text) (t .name-fits));
+      stamp-fits = g .stamp-fits;
+      size-fits = g .body-fits;
+      crc-fits = crc-lt (bodyGiven l p);
+    }
 
 says-reader : (l : Layout) (p : Parts) (room : ℕ) → Given l p → WellTexts (p .typeText) (p .deviceName) → (Unfit l (p .version) (p .sections) → ⊥)
     → HasIndex l (p .version) (p .sections .metadata)
@@ -271,26 +290,135 @@ says-no-metadata l p room t n o h b d =
 says-untouched : (l : Layout) (p : Parts) (out : List ℕ) → (writtenNumber (messageWritten l p (length out)) ≡ 0 → ⊥) → messageOut l p out ≡ out
 unfolding messageOut
 says-untouched l p out h =
-    out-refused (writeFault l p (length out)) (encodeParts l p) out (λ z. h (number-fault l p (length out) ∙ z))
+    out-refused (writeFault l p (length out)) (encodeParts l (cleanParts p)) out (λ z. h (number-fault l p (length out) ∙ z))
 
-says-read-back : (l : Layout) (p : Parts) (out : List ℕ) → Given l p → writtenNumber (messageWritten l p (length out)) ≡ 0 → ReadBack l p out
-unfolding messageWritten messageOut writeFault
-says-read-back l p out g h =
-    let z : writeFault l p (length out) ≡ 0 = sym (number-fault l p (length out)) ∙ h in
+-- ---- what is written is read back
+
+-- the bytes of p are accepted, and p stands in them
+parts-accepted : (l : Layout) (p : Parts) (room : ℕ) → Given l p → writeFault l p room ≡ 0
+    → (numberOf l (encodeParts l p) ≡ 0) × (partsAt l (encodeParts l p) ≡ p)
+unfolding writeFault
+parts-accepted l p room g z =
     let w = writable l p (zero-else (writeChecks l p) _ z .0) in
     let t = names-passed (p .typeText) (p .deviceName) (w .names) in
+    let i = written-index l p w in
     let fit : Unfit l (p .version) (p .sections) → ⊥ =
     λ u. true-false (fitOk l (p .version) (p .sections)) (w .fit) (unfit-refused l (p .version) (p .sections) u) in
     let a : readOf l (encodeParts l p) .number ≡ 0 =
-    zero-else (readOf l (encodeParts l p) .number) _ (sym (says-reader l p (length out) g t fit (written-index l p w)) ∙ h) .0 in
+    zero-else (readOf l (encodeParts l p) .number) _ (sym (says-reader l p room g t fit i) ∙ number-fault l p room ∙ z) .0 in (
+      number-read l (encodeParts l p) a,
+      ap (partsAt l) (sym (append-nil (encodeParts l p)))
+          ∙ parts-read l (indexOf p) p [] (given-header l p g t) (fit-well l p g (w .version) (w .short) fit i),
+    )
+
+-- it has the writer's zeros behind its texts
+given-zeros : (l : Layout) (p : Parts) → Given l p → zeroTexts p ≡ p
+given-zeros l p g = λ i.
+    record {
+      version = p .version;
+      typeText = p .typeText;
+      typeRest = sym (g .type-zeros) i;
+      deviceName = p .deviceName;
+      nameRest = sym (g .name-zeros) i;
+      timeStamp = p .timeStamp;
+      sections = p .sections;
+    }
+
+-- a content that passes, cleaned: a content that is well formed and clean
+pub record CleanedContent (t c : List ℕ) : Type 0 where
+  pub content : Content
+  pub well : tree.WellFormed content deepest
+  pub clean : IsClean content
+  pub type : typeText content ≡ t
+  pub bytes : tree.encode content ≡ cleanBytes deepest t c
+
+cleaned-content : (t c : List ℕ) → Bytes c → contentFault deepest t c ≡ 0 → CleanedContent t c
+cleaned-content t c b z =
+    let k : IsContent deepest t c = contents .accepted deepest t c b z in
+    let x : Content = k .content in
+    record {
+      content = cleaned x;
+      well = contents .cleaned-well deepest x (k .well);
+      clean = contents .cleaned-clean x;
+      type = cleaned-type x ∙ k .type;
+      bytes = sym (cleanings .cleaned-bytes deepest x (k .well)) ∙ ap₂ (cleanBytes deepest) (k .type) (k .bytes);
+    }
+
+-- it passes, and its mark is true
+module _ (t c : List ℕ) (k : CleanedContent t c) where
+  cleaned-passes : contentFault deepest t (cleanBytes deepest t c) ≡ 0
+  cleaned-passes =
+      ap₂ (contentFault deepest) (sym (k .type)) (sym (k .bytes)) ∙ contents .well-accepted deepest (k .content) (k .well)
+
+  cleaned-marked : contentClean deepest t (cleanBytes deepest t c) ≡ true
+  cleaned-marked =
+      ap₂ (contentClean deepest) (sym (k .type)) (sym (k .bytes))
+      ∙ sym (content-mark deepest (k .content) (k .well))
+      ∙ mark-from deepest (k .content) (k .well) (k .clean)
+
+-- the content of what passes the writer's checks passes
+content-passes : (l : Layout) (p : Parts) → writeChecks l p ≡ 0 → contentFault deepest (p .typeText) (p .sections .content) ≡ 0
+unfolding writeChecks sectionsChecks sectionsFault
+content-passes l p z =
+    let a = zero-else (namesFault (p .typeText) (p .deviceName)) _ z in
+    let b = zero-else (limitFault (length (bodyGiven l p))) _ (a .1) in
+    let v = zero-else (versionFault (p .version)) _ (b .1) in
+    let f = zero-else (fitFault l (p .version) (p .sections)) _ (v .1) in
+    zero-else (metadataFault (p .sections .metadata)) _ (f .1) .1
+
+cleaned-checks : (l : Layout) (p : Parts) → CleanedContent (p .typeText) (p .sections .content) → writeChecks l p ≡ 0 → writeChecks l (cleanParts p) ≡ 0
+unfolding writeChecks sectionsChecks fitFault sectionsFault
+cleaned-checks l p k z =
+    let a = zero-else (namesFault (p .typeText) (p .deviceName)) _ z in
+    let b = zero-else (limitFault (length (bodyGiven l p))) _ (a .1) in
+    let v = zero-else (versionFault (p .version)) _ (b .1) in
+    let f = zero-else (cond (fitOk l (p .version) (p .sections)) 0 6) _ (v .1) in
+    let m = zero-else (metadataFault (p .sections .metadata)) _ (f .1) in
+    else-zero (namesFault (p .typeText) (p .deviceName)) _ (a .0)
+    (else-zero (limitFault (length (bodyGiven l (cleanParts p)))) _ (ap limitFault (length-cleaned-body l p) ∙ b .0)
+    (else-zero (versionFault (p .version)) _ (v .0)
+    (else-zero (cond (fitOk l (p .version) (p .sections)) 0 6) _ (f .0)
+    (else-zero (metadataFault (p .sections .metadata)) _ (m .0) (cleaned-passes (p .typeText) (p .sections .content) k)))))
+
+cleaned-given : (l : Layout) (p : Parts) → Given l p → Given l (cleanParts p)
+cleaned-given l p g =
+    record {
+      version-fits = g .version-fits;
+      stamp-fits = g .stamp-fits;
+      id-fits = g .id-fits;
+      further-bytes = g .further-bytes;
+      type-zeros = g .type-zeros;
+      name-zeros = g .name-zeros;
+      body-fits = subst (λ (n : ℕ). n < 256 ^ 8) (sym (length-cleaned-body l p)) (g .body-fits);
+    }
+
+cleaned-mark : (l : Layout) (p : Parts) → Given l p → CleanedContent (p .typeText) (p .sections .content) → cleanFor (cleanParts p) ≡ true
+cleaned-mark l p g k =
+    and-join (allZero (p .typeRest) && allZero (p .nameRest)) _
+    (and-join (allZero (p .typeRest)) _
+    (ap allZero (g .type-zeros) ∙ all-zeros (12 - length (p .typeText)))
+    (ap allZero (g .name-zeros) ∙ all-zeros (20 - length (p .deviceName))))
+    (cleaned-marked (p .typeText) (p .sections .content) k)
+
+says-read-back : (l : Layout) (p : Parts) (out : List ℕ) → Given l p → Bytes (p .sections .content) → writtenNumber (messageWritten l p (length out)) ≡ 0
+    → ReadBack l p out
+unfolding messageWritten messageOut writeFault
+says-read-back l p out g b h =
+    let z : writeFault l p (length out) ≡ 0 = sym (number-fault l p (length out)) ∙ h in
+    let y = zero-else (writeChecks l p) (roomFault (length (encodeParts l p)) (length out)) z in
+    let k = cleaned-content (p .typeText) (p .sections .content) b (content-passes l p (y .0)) in
+    let q : Parts = cleanParts p in
+    let n : length (encodeParts l q) ≡ length (encodeParts l p) = length-cleaned l p in
+    let f : writeFault l q (length out) ≡ 0 =
+    else-zero (writeChecks l q) (roomFault (length (encodeParts l q)) (length out)) (cleaned-checks l p k (y .0))
+    (ap (λ (i : ℕ). roomFault i (length out)) n ∙ y .1) in
+    let r = parts-accepted l q (length out) (cleaned-given l p g) f in
     record {
       count = ap writtenCount (written-wrote (writeFault l p (length out)) (length (encodeParts l p)) z);
-      bytes = out-wrote (writeFault l p (length out)) (encodeParts l p) out z;
-      accepted = a;
-      handed-out =
-          handed-parts l (encodeParts l p) (number-read l (encodeParts l p) a)
-          ∙ ap (partsAt l) (sym (append-nil (encodeParts l p)))
-          ∙ parts-read l (indexOf p) p [] (given-header l p g t) (fit-well l p g (w .version) (w .short) fit (written-index l p w));
+      bytes = out-wrote (writeFault l p (length out)) (encodeParts l q) out z ∙ ap (λ (i : ℕ). encodeParts l q ++ drop i out) n;
+      accepted = read-number l (encodeParts l q) ∙ r .0;
+      clean = read-mark l (encodeParts l q) (r .0) ∙ ap cleanFor (r .1) ∙ cleaned-mark l p g k;
+      handed-out = handed-parts l (encodeParts l q) (r .0) ∙ ap zeroTexts (r .1) ∙ given-zeros l q (cleaned-given l p g);
     }
 
 pub writer-numbers : (l : Layout) → WriterNumbers l

@@ -1,6 +1,6 @@
 -- The writer's checks: what passes them, and how they stand to the reader's.
 use Prim.Native.Nat.{ℕ, _+_, _<_, _≤_}
-use mathlib.Core.Path.{_≡_, refl, sym, ap, ap₂, _∙_}
+use mathlib.Core.Path.{_≡_, refl, sym, ap, ap₂, subst, _∙_}
 use mathlib.Core.Logic.{inl, inr, ⊎-elim}
 use mathlib.Core.Bool.{Bool, true, false, cond, _&&_}
 use mathlib.Core.List.{List, [], _++_, append-assoc, append-nil}
@@ -24,11 +24,13 @@ use Rattle.header.specs.Check.{headerOf, namesFault, limitFault, headerOut}
 use Rattle.header.specs.Check as header
 use Rattle.metadata.specs.Check.{indexIn, metadataFault}
 use Rattle.metadata.proofs.Laws.Metadatas.{metadatas}
+use Rattle.content.specs.Check.{deepest}
+use Rattle.cleaning.proofs.Laws.Lengths.{length-clean}
 use Rattle.message.specs.declared.Layout.{Layout}
 use Rattle.message.specs.Body.{Sections, Plain, MetadataFits, WellSections, encodeBody}
 use Rattle.message.specs.Message.{Parts, bodyOf, headerFor, encodeWith}
 use Rattle.message.specs.Check.{versionFault, sizesFault, sectionsFault, foundFault, sectionsOf, bodyChecks, bodyAt, numberOf}
-use Rattle.message.specs.Writer.{bodyGiven, encodeParts, bodyLength, sizeFits, fits, fitOk, fitFault, sectionsChecks, writeChecks, writeFault, messageWritten, messageOut}
+use Rattle.message.specs.Writer.{bodyGiven, encodeParts, bodyLength, sizeFits, fits, fitOk, fitFault, sectionsChecks, writeChecks, writeFault, cleanParts, messageWritten, messageOut}
 use Rattle.message.specs.Bodies.{IsVersion}
 use Rattle.message.specs.Numbers.{HasIndex}
 use Rattle.header.proofs.Laws.Layout.{length-header}
@@ -89,7 +91,7 @@ module _ (v f c m : ℕ) where
       go true = omega arith
       go false = omega arith
 
-length-body : (l : Layout) (v j : ℕ) (x : Sections) → length (encodeBody l v j x) ≡ bodyLength v (length (x .further)) (length (x .content)) (length (x .metadata))
+pub length-body : (l : Layout) (v j : ℕ) (x : Sections) → length (encodeBody l v j x) ≡ bodyLength v (length (x .further)) (length (x .content)) (length (x .metadata))
 length-body l v j x =
     by-test (eqb v 2)
     (λ e.
@@ -275,7 +277,9 @@ module _ (l : Layout) (k : ℕ) (p : Parts) where
       record {
         version = h i .version;
         typeText = h i .typeText;
+        typeRest = h i .typeRest;
         deviceName = h i .deviceName;
+        nameRest = h i .nameRest;
         timeStamp = h i .timeStamp;
         sections = x i;
       }
@@ -291,7 +295,32 @@ module _ (l : Layout) (k : ℕ) (p : Parts) where
       ∙ ap (foundFault l v (p .typeText) body) (body-read l v k x w)
       ∙ else-second (sizesFault l v body (x .metadata)) _ (body-agreed l v k x w (x .metadata) (agrees-same l v k (x .metadata) e))
 
--- the header's writer passes it too
+-- ---- with its content cleaned
+
+pub length-cleaned-body : (l : Layout) (p : Parts) → length (bodyGiven l (cleanParts p)) ≡ length (bodyGiven l p)
+length-cleaned-body l p =
+    let x : Sections = p .sections in
+    length-given l (cleanParts p)
+    ∙ ap (λ (n : ℕ). bodyLength (p .version) (length (x .further)) n (length (x .metadata))) (length-clean deepest (p .typeText) (x .content))
+    ∙ sym (length-given l p)
+
+pub length-cleaned : (l : Layout) (p : Parts) → length (encodeParts l (cleanParts p)) ≡ length (encodeParts l p)
+length-cleaned l p =
+    length-parts l (indexOf p) (cleanParts p) ∙ ap (λ (n : ℕ). 58 + n) (length-cleaned-body l p) ∙ sym (length-parts l (indexOf p) p)
+
+pub writable-cleaned : (l : Layout) (p : Parts) → Writable l p → Writable l (cleanParts p)
+writable-cleaned l p w =
+    record {
+      names = w .names;
+      short = subst (λ (n : ℕ). n ≤ limit) (sym (length-cleaned-body l p)) (w .short);
+      version = w .version;
+      fit = w .fit;
+      metadata = w .metadata;
+    }
+
+-- ---- the header's writer
+
+-- passes it too
 header-writes : (l : Layout) (p : Parts) → Writable l p → (room : ℕ) → 58 ≤ room → header.writeFault (headerFor l (indexOf p) p) room ≡ 0
 header-writes l p w room h =
     write-room (headerFor l (indexOf p) p) room (w .names) (limit-pass (length (bodyGiven l p)) (w .short)) ∙ room-enough 58 room h
@@ -330,13 +359,13 @@ module _ (l : Layout) (p : Parts) (out : List ℕ) (n k crc : ℕ) (y : List ℕ
   after-length = omega (arith, length-append (take 58 out) (y ++ drop k (drop 58 out)), length-take-le 58 out (omega arith))
 
   pub message-stored : headerOut
-      (record { version = p .version; typeText = p .typeText; deviceName = p .deviceName; timeStamp = p .timeStamp; bodySize = n; crc = crc })
+      (record { version = p .version; typeText = p .typeText; typeRest = p .typeRest; deviceName = p .deviceName; nameRest = p .nameRest; timeStamp = p .timeStamp; bodySize = n; crc = crc })
       after
       ≡ encodeParts l p ++ drop (58 + n) out
   unfolding encodeWith
   message-stored =
       ap (λ (h : Header). headerOut h after)
-      (λ i. record { version = p .version; typeText = p .typeText; deviceName = p .deviceName; timeStamp = p .timeStamp; bodySize = e i; crc = crc-stored i })
+      (λ i. record { version = p .version; typeText = p .typeText; typeRest = p .typeRest; deviceName = p .deviceName; nameRest = p .nameRest; timeStamp = p .timeStamp; bodySize = e i; crc = crc-stored i })
       ∙ out-header (headerFor l (indexOf p) p) after (header-writes l p w (length after) after-length)
       ∙ ap (λ (r : List ℕ). encodeHeader (headerFor l (indexOf p) p) ++ r) after-rest
       ∙ sym (append-assoc (encodeHeader (headerFor l (indexOf p) p)) (bodyGiven l p) (drop (58 + n) out))
@@ -365,12 +394,15 @@ module _ (l : Layout) (p : Parts) (out : List ℕ) where
         (sym (else-second (writeChecks l p) _ z ∙ room-short (length (encodeParts l p)) (length out) (omega (arith, whole-length))))
         (λ k. omega (arith, k))
 
-    pub answers-written : 58 + n ≤ length out → (left : List ℕ) → left ≡ encodeParts l p ++ drop (58 + n) out
+    pub answers-written : 58 + n ≤ length out → (left : List ℕ) → left ≡ encodeParts l (cleanParts p) ++ drop (58 + n) out
         → (Wrote (58 + n) ≡ messageWritten l p (length out)) × (left ≡ messageOut l p out)
     unfolding messageWritten messageOut writeFault
     answers-written h left k =
+        let q : Parts = cleanParts p in
         let f : writeFault l p (length out) ≡ 0 =
         else-zero (writeChecks l p) _ z (room-enough (length (encodeParts l p)) (length out) (omega (arith, whole-length))) in (
           ap Wrote whole-length ∙ sym (written-wrote (writeFault l p (length out)) (length (encodeParts l p)) f),
-          k ∙ ap (λ (j : ℕ). encodeParts l p ++ drop j out) whole-length ∙ sym (out-wrote (writeFault l p (length out)) (encodeParts l p) out f),
+          k
+              ∙ ap (λ (j : ℕ). encodeParts l q ++ drop j out) (whole-length ∙ sym (length-cleaned l p))
+              ∙ sym (out-wrote (writeFault l p (length out)) (encodeParts l q) out f),
         )

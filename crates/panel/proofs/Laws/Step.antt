@@ -18,6 +18,7 @@ use Rattle.fields.proofs.Laws.Tests.{by-test, by-zero, true-false, cond-cases}
 use Rattle.content.specs.Check.{deepest}
 use Rattle.content.specs.Tree.{typeText}
 use Rattle.message.specs.declared.Layout.{Layout}
+use Rattle.message.proofs.Laws.Messages.{well-texts}
 use Rattle.message.specs.Message.{Message, WellFormed, encode}
 use Rattle.message.specs.Check.{readOf}
 use Rattle.message.specs.Demand2.{Begins}
@@ -80,7 +81,7 @@ module _ (l : Layout) (t : ℕ) (s : List ℕ) (n : Message) (w : WellFormed l n
       (λ q. a)
   count-agrees x (some y) a =
       let e : isTile k x ≡ carries n (y .entry) =
-      ap (λ (y : Label). isTile y x) (begun-label l s n begins) ∙ place-is x (some y) (typeText (n .content)) (n .deviceName) (w .texts) a in
+      ap (λ (y : Label). isTile y x) (begun-label l s n begins) ∙ place-is x (some y) (typeText (n .content)) (n .deviceName) (well-texts l n w) a in
       subst (λ (q : Bool). TileAgrees (cond q (countedTile x t v) x) (some (countedBy t (oneMessage n) y))) (sym e)
       (chosen (carries n (y .entry)) refl)
     where

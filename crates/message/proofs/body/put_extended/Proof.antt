@@ -1,12 +1,17 @@
 -- `message::body::put_extended` meets its contract: seven stores, each where the one before it ends, are one of the joined fields.
 use Prim.Native.Nat.{ℕ, _+_}
 use mathlib.Core.Path.{ap, ap₂, sym, _∙_, subst}
+use native.Mathlib.Omega.{arith}
 use mathlib.Core.List.{List}
 use lib.ListN.{length}
 use lib.Seq.{sets}
 use borrow.Author.Needs.{needs}
 use Rattle.fields.specs.Numbers.{beBytes}
 use Rattle.metadata.specs.Check.{indexIn}
+use Rattle.content.specs.Check.{deepest}
+use Rattle.cleaning.specs.Clean.{cleanBytes}
+use Rattle.cleaning.proofs.Laws.Lengths.{length-clean}
+use Rattle.cleaning.proofs.Laws.Walk.{put-left}
 use Rattle.message.specs.declared.extended.ExtendedNumbers.{ExtendedNumbers}
 use Rattle.message.specs.Body.{extendedNumbers, MetadataFits}
 use Rattle.message.specs.Writer.{sectionsGiven}
@@ -24,8 +29,8 @@ index-size-requires : tie.Need-index-size-requires
 index-size-requires c κs = search needs
 
 extended-numbers-requires : tie.Need-extended-numbers-requires
-extended-numbers-requires c κs = let a = c .before .before .before .before .before .args in
-    subst (λ (k : ℕ). MetadataFits (a .layout) k (length (a .metadata .now))) (sym (c .index-size .ensures)) (c .before .before .before .before .before .pre .1)
+extended-numbers-requires c κs = let start = c .before .before .before .before .before .before in
+    subst (λ (k : ℕ). MetadataFits (start .args .layout) k (length (start .args .metadata .now))) (sym (c .index-size .ensures)) (start .pre .1)
 
 cast-put16 : tie.Need-cast-put16
 cast-put16 c = search needs
@@ -45,11 +50,11 @@ put32-requires-2 c κs = search needs
 put-requires : tie.Need-put-requires
 put-requires c κs = search needs
 
+put-clean-requires : tie.Need-put-clean-requires
+put-clean-requires c κs = search needs
+
 put-requires-2 : tie.Need-put-requires-2
 put-requires-2 c κs = search needs
-
-put-requires-3 : tie.Need-put-requires-3
-put-requires-3 c κs = search needs
 
 same-length : tie.Need-same-length
 same-length c = search needs
@@ -65,22 +70,26 @@ returns c =
     let c2 = c3 .before .before .before .before in
     let c1 = c2 .before .before .before .before in
     let c0 = c1 .before .before in
-    let a = c0 .before .before .before .before .before .before .args in
+    let start = c0 .before .before .before .before .before .before .before in
+    let a = start .args in
+    let t = a .type-text .now in
+    let y = a .content .now in
     let n : ℕ = 12 + length (a .further .now) in
     let e = c0 .extended-numbers .ensures
     ∙ ap (λ (k : ℕ). extendedNumbers (a .layout) k (length (a .metadata .now)) (a .id)) (c0 .before .index-size .ensures) in
-    c7 .put3 .ensures
-    ∙ ap (λ (r : List ℕ). sets r (n + length (a .content .now)) (a .metadata .now))
-    (c6 .put2 .ensures
-    ∙ ap (λ (r : List ℕ). sets r n (a .content .now))
-    (c5 .put .ensures
+    let front = c5 .put .ensures
     ∙ ap (λ (r : List ℕ). sets r 12 (a .further .now))
     (c4 .put322 .ensures
     ∙ ap₂ (λ (r : List ℕ) (x : ExtendedNumbers). sets r 8 (beBytes 4 (x .fourth)))
     (c3 .put32 .ensures
     ∙ ap₂ (λ (r : List ℕ) (x : ExtendedNumbers). sets r 4 (beBytes 4 (x .third)))
-    (c2 .put162 .ensures ∙ ap₂ (λ (r : List ℕ) (x : ExtendedNumbers). sets r 2 (beBytes 2 (x .second))) (c1 .put16 .ensures) e) e) e)))
-    ∙ extended-stored (a .layout) (indexIn (a .metadata .now)) (sectionsGiven (a .id) (a .further .now) (a .content .now) (a .metadata .now)) (a .out .now)
+    (c2 .put162 .ensures ∙ ap₂ (λ (r : List ℕ) (x : ExtendedNumbers). sets r 2 (beBytes 2 (x .second))) (c1 .put16 .ensures) e) e) e) in
+    let clean =
+    put-left deepest t y n _ _ (c6 .put-clean .ensures)
+    (omega (arith, start .pre .3, c5 .put .kept .1 .1 .0, c4 .put322 .kept .1 .1 .0, c3 .put32 .kept .1 .1 .0, c2 .put162 .kept .1 .1 .0, c1 .put16 .kept .1 .1 .0)) in
+    c7 .put2 .ensures
+    ∙ ap₂ (λ (r : List ℕ) (k : ℕ). sets r (n + k) (a .metadata .now)) (clean ∙ ap (λ (r : List ℕ). sets r n (cleanBytes deepest t y)) front) (sym (length-clean deepest t y))
+    ∙ extended-stored (a .layout) (indexIn (a .metadata .now)) (sectionsGiven (a .id) (a .further .now) (cleanBytes deepest t y) (a .metadata .now)) (a .out .now)
 
 pub put-extended-spec : {M : Type 1} → statement M
 put-extended-spec =
@@ -96,7 +105,7 @@ put-extended-spec =
     put32-requires
     put32-requires-2
     put-requires
+    put-clean-requires
     put-requires-2
-    put-requires-3
     same-length
     returns)

@@ -1,0 +1,4 @@
+-- The laws that other crates cite, and the computed examples.
+
+pub mod Laws
+pub mod Examples
