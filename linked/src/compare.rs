@@ -6,6 +6,7 @@ mod feed;
 mod panel;
 
 use crate::inputs::Input;
+use crate::FIELDS;
 use reference::content::parse;
 use reference::crc::crc;
 use reference::fault::number;
@@ -20,8 +21,19 @@ use std::fmt::{self, Debug, Display, Formatter};
 pub enum Label {
     /// A number of rule 5.1.
     Number(u8),
-    /// A CRC, which answer of the panel that is no refusal, or that a feed has none yet.
+    /// A CRC, a message that is accepted and not clean, which answer of the panel that is no
+    /// refusal, or that a feed has none yet.
     Word(&'static str),
+}
+
+impl Label {
+    /// Of the answer to a message, by its numbers.
+    fn of_message(numbers: &[u64; FIELDS]) -> Self {
+        match (numbers[0], numbers[FIELDS - 1]) {
+            (0, 0) => Label::Word("not clean"),
+            (number, _) => Label::Number(u8::try_from(number).expect("a number")),
+        }
+    }
 }
 
 impl Display for Label {
@@ -98,14 +110,13 @@ fn compare_crc(bytes: &[u8]) -> Result<Vec<Label>, Difference> {
 fn compare_front(layout: Layout, stream: &[u8], at: usize) -> Result<(Label, usize), Difference> {
     let stream = &stream[at..];
     let reading = read(layout, stream);
-    let answer = number(&reading.message);
-    let brief = (answer, reading.step);
+    let brief = (number(&reading.message), reading.step);
     let of_read = format_args!("number and step at {at}");
     same(of_read, crate::read(layout, stream), brief)?;
-    let of_fields = format_args!("the thirteen numbers at {at}");
+    let of_fields = format_args!("the fourteen numbers at {at}");
     let fields = crate::read_fields(layout, stream);
     same(of_fields, fields, reading.numbers())?;
-    Ok((Label::Number(answer), reading.step))
+    Ok((Label::of_message(&fields), reading.step))
 }
 
 /// The answers up to the first step of 0.

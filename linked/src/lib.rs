@@ -113,8 +113,9 @@ pub fn read(layout: Layout, stream: &[u8]) -> (u8, usize) {
 }
 
 /// How many numbers the answer to the front of a stream has: number, step, version, lengths of type
-/// and device name, time stamp, id; place and length of each part: further bytes, content, metadata.
-pub const FIELDS: usize = 13;
+/// and device name, time stamp, id; place and length of each part: further bytes, content, metadata;
+/// the mark, 1 where the message is clean.
+pub const FIELDS: usize = 14;
 
 /// All numbers of the answer to the front of a stream.
 pub fn read_fields(layout: Layout, stream: &[u8]) -> [u64; FIELDS] {

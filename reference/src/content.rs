@@ -40,6 +40,23 @@ pub fn parse_nested(type_text: &[u8], bytes: &[u8]) -> Result<Content, Fault> {
     parse_at(OUTERMOST + 1, type_text, bytes)
 }
 
+/// The bytes of a message's content with zeros after the text in each CTYPE field, at all levels:
+/// it is put together again.
+pub fn cleaned(type_text: &[u8], bytes: &[u8]) -> Result<Vec<u8>, Fault> {
+    parse(type_text, bytes).map(|content| content.encode())
+}
+
+/// Whether a message's content is accepted and has such zeros already.
+pub fn is_clean(type_text: &[u8], bytes: &[u8]) -> bool {
+    cleaned(type_text, bytes).is_ok_and(|cleaned| cleaned == bytes)
+}
+
+/// The BIND of these children, as a message's content.
+pub fn bind_of(parts: &[Part]) -> Result<Content, Fault> {
+    bind::join(parts).ok_or(Fault::Bind)?;
+    parse_children(OUTERMOST, parts).map(Content::Bind)
+}
+
 /// The level is that of a BIND in this place.
 fn parse_at(level: u32, type_text: &[u8], bytes: &[u8]) -> Result<Content, Fault> {
     match type_text {
@@ -56,6 +73,11 @@ fn parse_bind(level: u32, bytes: &[u8]) -> Result<Vec<Child>, Fault> {
         return Err(Fault::Depth);
     }
     let parts = bind::split(bytes).ok_or(Fault::Bind)?;
+    parse_children(level, &parts)
+}
+
+/// The children of a BIND at this level.
+fn parse_children(level: u32, parts: &[Part]) -> Result<Vec<Child>, Fault> {
     let children = parts.iter().map(|part| parse_child(level + 1, part));
     children.collect()
 }
@@ -69,7 +91,7 @@ fn parse_child(level: u32, part: &Part) -> Result<Child, Fault> {
 }
 
 impl Content {
-    /// The bytes of the content; a BIND of any depth.
+    /// The bytes of the content, with zeros after each text of a field; a BIND of any depth.
     ///
     /// # Panics
     /// Where the children of a BIND do not fit its fields.

@@ -4,7 +4,7 @@
 use crate::fault::Fault;
 use crate::message::body::Layout;
 use crate::message::header::{Header, LENGTH};
-use crate::message::read;
+use crate::message::{read, NUMBERS};
 
 /// A feed is opened over a buffer, and fragments are pushed to it. One that is not taken whole is
 /// pushed again from its first byte that was not taken, until the push is refused.
@@ -31,7 +31,7 @@ pub enum Answer {
     /// No message has ended.
     Nothing,
     /// The numbers of the answer to the message that has ended.
-    Read([u64; 13]),
+    Read([u64; NUMBERS]),
     Refused(Fault),
 }
 
@@ -64,7 +64,7 @@ struct Span {
     /// place after the stream.
     end: usize,
     /// The answer, where all of it is there.
-    answer: [u64; 13],
+    answer: [u64; NUMBERS],
     /// How many of its bytes go to the buffer.
     stored: usize,
 }
@@ -145,8 +145,8 @@ fn length(header: &Header) -> usize {
 }
 
 /// The answer to a message of so many bytes, which are more than the buffer has.
-fn exceeding(length: usize) -> [u64; 13] {
-    let mut numbers = [0; 13];
+fn exceeding(length: usize) -> [u64; NUMBERS] {
+    let mut numbers = [0; NUMBERS];
     numbers[0] = Fault::Room as u64;
     numbers[1] = length as u64;
     numbers
@@ -404,7 +404,7 @@ mod tests {
 
     #[test]
     fn nothing_is_taken_after_a_stop() {
-        let [_, wrong, ..] = &streams::refused(Layout::New)[..] else {
+        let [_, wrong, ..] = &streams::of_each_number(Layout::New)[..] else {
             panic!("a message for 3");
         };
         let mut pushes = Pushes::new(Layout::New, 60, 0, &[&wrong[..60], &[], wrong]);

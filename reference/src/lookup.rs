@@ -1,7 +1,7 @@
 //! Look-ups of a BIND's children (rules 6.1 and 6.2). Each judges the whole content first.
 
 use crate::content::bind::{self, Part};
-use crate::content::parse;
+use crate::content::cleaned;
 use crate::fault::Fault;
 
 #[derive(Clone, Copy, Debug, PartialEq, Eq)]
@@ -15,10 +15,23 @@ pub enum Source {
 pub struct Found<'a> {
     pub child: Part<'a>,
     pub at: usize,
+    /// Whether only zeros follow each text in the content that it was found in, at all levels.
+    pub clean: bool,
 }
 
-pub fn count(content: &[u8]) -> Result<usize, Fault> {
-    Bundle::open(content).map(|bundle| bundle.children.len())
+/// How many children there are.
+#[derive(Clone, Copy, Debug, Default, PartialEq, Eq)]
+pub struct Count {
+    pub children: usize,
+    /// As of a child found.
+    pub clean: bool,
+}
+
+pub fn count(content: &[u8]) -> Result<Count, Fault> {
+    Bundle::open(content).map(|bundle| Count {
+        children: bundle.children.len(),
+        clean: bundle.clean,
+    })
 }
 
 pub fn by_number(content: &[u8], number: u64) -> Result<Found<'_>, Fault> {
@@ -51,13 +64,18 @@ pub fn either<'a>(
 struct Bundle<'a> {
     content: &'a [u8],
     children: Vec<Part<'a>>,
+    clean: bool,
 }
 
 impl<'a> Bundle<'a> {
     fn open(content: &'a [u8]) -> Result<Self, Fault> {
-        parse(b"BIND", content)?;
+        let clean = cleaned(b"BIND", content)? == content;
         let children = bind::split(content).ok_or(Fault::Bind)?;
-        Ok(Bundle { content, children })
+        Ok(Bundle {
+            content,
+            children,
+            clean,
+        })
     }
 
     fn named(&self, name: &[u8]) -> Option<Found<'a>> {
@@ -73,13 +91,14 @@ impl<'a> Bundle<'a> {
             .map(|child| child.data.len().next_multiple_of(2));
         let at = self.content.len() - padded.sum::<usize>();
         let child = *tail.first()?;
-        Some(Found { child, at })
+        let clean = self.clean;
+        Some(Found { child, at, clean })
     }
 }
 
 #[cfg(test)]
 mod tests {
-    use super::{by_name, by_number, count, either, Source};
+    use super::{by_name, by_number, count, either, Count, Source};
     use crate::content::bind::{join, Part};
     use crate::fault::Fault;
 
@@ -103,7 +122,8 @@ mod tests {
     #[test]
     fn numbers_run_from_0_to_below_the_count() {
         let content = bundle(&[(b"A", b"1"), (b"B", b"2")]);
-        assert_eq!(count(&content), Ok(2));
+        let clean = true;
+        assert_eq!(count(&content), Ok(Count { children: 2, clean }));
         assert_eq!(by_number(&content, 1).unwrap().child.data, b"2");
         assert_eq!(by_number(&content, 2), Err(Fault::NotFound));
         assert_eq!(by_number(&content, u64::MAX), Err(Fault::NotFound));

@@ -5,6 +5,7 @@ pub mod header;
 pub mod metadata;
 pub mod time_stamp;
 
+use crate::content;
 use crate::crc::crc;
 use crate::fault::{number, smallest, Fault};
 use body::{Body, Layout};
@@ -26,17 +27,29 @@ pub struct Reading<'a> {
     /// The length of the message, or 0 with the numbers 1, 2 and 3 (rule 5.3).
     pub step: usize,
     pub message: Result<Message<'a>, Fault>,
+    /// Whether only zeros follow each text of an accepted message, those of its content too.
+    pub clean: bool,
 }
+
+/// As many numbers as a reading has.
+pub const NUMBERS: usize = 14;
 
 pub fn read(layout: Layout, stream: &[u8]) -> Reading<'_> {
     match cut(stream) {
-        Ok((header, bytes)) => Reading {
-            step: header::LENGTH + bytes.len(),
-            message: open(layout, &header, bytes),
-        },
+        Ok((header, bytes)) => {
+            let message = open(layout, &header, bytes);
+            let is_clean =
+                |message: Message| header.is_clean(stream) && message.has_clean_content();
+            Reading {
+                step: header::LENGTH + bytes.len(),
+                message,
+                clean: message.is_ok_and(is_clean),
+            }
+        }
         Err(fault) => Reading {
             step: 0,
             message: Err(fault),
+            clean: false,
         },
     }
 }
@@ -68,9 +81,16 @@ fn open<'a>(layout: Layout, header: &Header<'a>, bytes: &'a [u8]) -> Result<Mess
 }
 
 impl Message<'_> {
-    /// The bytes of the message. Every fault is looked for, and the smallest counts.
+    /// The bytes of the message, with zeros after each text of its content. Every fault is looked
+    /// for, and the smallest counts.
     pub fn encode(&self, layout: Layout) -> Result<Vec<u8>, Fault> {
-        let body = self.body.join(layout, self.version);
+        let content = content::cleaned(self.type_text, self.body.content);
+        let content = content.as_deref().unwrap_or(self.body.content);
+        let body = Body {
+            content,
+            ..self.body
+        };
+        let body = body.join(layout, self.version);
         let header = self.header(body.as_deref().unwrap_or_default()).encode();
         let faults = [
             header.as_ref().err().copied(),
@@ -81,6 +101,10 @@ impl Message<'_> {
             Some(fault) => Err(fault),
             None => Ok([header?, body?].concat()),
         }
+    }
+
+    fn has_clean_content(&self) -> bool {
+        content::is_clean(self.type_text, self.body.content)
     }
 
     fn header(&self, bytes: &[u8]) -> Header<'_> {
@@ -108,9 +132,9 @@ impl Reading<'_> {
     }
 
     /// The answer's number and the step; the version, the lengths of the type and the device name,
-    /// the time stamp, the id; the place and the length of each of the three parts. All but the
-    /// first two are 0 where the message is refused.
-    pub fn numbers(&self) -> [u64; 13] {
+    /// the time stamp, the id; the place and the length of each of the three parts; 1 where it is
+    /// clean. All but the first two are 0 where the message is refused.
+    pub fn numbers(&self) -> [u64; NUMBERS] {
         let [further_at, content_at, metadata_at] = self.places();
         let message = self.message.unwrap_or_default();
         let body = message.body;
@@ -128,6 +152,7 @@ impl Reading<'_> {
             body.content.len() as u64,
             metadata_at as u64,
             body.metadata.len() as u64,
+            self.clean.into(),
         ]
     }
 }
@@ -136,8 +161,9 @@ impl Reading<'_> {
 mod tests {
     use super::body::Layout::{self, New, Old};
     use super::metadata::{self, Entry};
-    use super::{read, Body, Message, Reading};
+    use super::{read, Body, Message};
     use crate::fault::{number, Fault};
+    use crate::vectors::case::from_digits;
     use crate::vectors::samples::mended;
 
     fn status() -> Message<'static> {
@@ -166,8 +192,10 @@ mod tests {
     /// In both layouts.
     fn refused(stream: &[u8]) -> Option<(Fault, usize)> {
         let [new, old] = Layout::BOTH.map(|layout| {
-            let Reading { step, message } = read(layout, stream);
-            message.err().map(|fault| (fault, step))
+            let reading = read(layout, stream);
+            assert_eq!(reading.clean, reading.message.is_ok());
+            let fault = reading.message.err()?;
+            Some((fault, reading.step))
         });
         assert_eq!(new, old);
         new
@@ -218,10 +246,7 @@ mod tests {
 
     /// The stream of this body, given in hexadecimal with blanks.
     fn with_body(digits: &str) -> Vec<u8> {
-        let digits: String = digits.split(' ').collect();
-        let body = (0..digits.len()).step_by(2);
-        let body = body.map(|place| u8::from_str_radix(&digits[place..place + 2], 16).unwrap());
-        let mut stream = plain(&body.collect::<Vec<_>>()).encode(New).unwrap();
+        let mut stream = plain(&from_digits(digits)).encode(New).unwrap();
         stream[1] = 2;
         stream
     }

@@ -13,13 +13,19 @@ pub fn in_field(field: &[u8]) -> &[u8] {
     &field[..length.unwrap_or(field.len())]
 }
 
+/// Sets all that follows the text in a field to 0.
+pub fn clear_rest(field: &mut [u8]) {
+    let length = in_field(field).len();
+    field[length..].fill(0);
+}
+
 pub fn is_text(bytes: &[u8]) -> bool {
     bytes.iter().all(|byte| (1..=127).contains(byte))
 }
 
 #[cfg(test)]
 mod tests {
-    use super::{field, in_field};
+    use super::{clear_rest, field, in_field};
 
     #[test]
     fn a_text_may_fill_its_field_and_may_be_empty() {
@@ -40,5 +46,18 @@ mod tests {
         assert_eq!(in_field(b"A\0B"), b"A");
         assert_eq!(in_field(b"AB"), b"AB");
         assert_eq!(in_field(b"\0"), b"");
+    }
+
+    #[test]
+    fn zeros_take_the_place_of_what_follows_the_text() {
+        for field in [b"AB\0\0\0", b"AB\0CD", b"AB\0\0\xFF"] {
+            let mut field = *field;
+            clear_rest(&mut field);
+            assert_eq!(field, *b"AB\0\0\0");
+        }
+        let [mut full, mut empty] = [*b"ABC", *b"\0BC"];
+        clear_rest(&mut full);
+        clear_rest(&mut empty);
+        assert_eq!([full, empty], [*b"ABC", [0; 3]]);
     }
 }

@@ -14,6 +14,7 @@ pub mod messages;
 pub mod metadata;
 mod out;
 pub mod patched;
+pub mod rests;
 pub mod samples;
 pub mod scripts;
 pub mod streams;
@@ -41,6 +42,7 @@ pub fn files() -> [VectorFile; 10] {
         messages::cases(),
         streams::cases(),
         message_writers::cases(),
+        rests::cases(),
     ];
     let cases = topics.concat();
     let sample = streams::listing_input();

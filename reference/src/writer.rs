@@ -1,9 +1,9 @@
 //! Writers of contents, headers and messages: the bytes into the front of a lent buffer, or nothing
-//! of it touched.
+//! of it touched. In a content that one is given, zeros take the place of what follows each text.
 
-use crate::content::bind::{self, Part};
+use crate::content::bind::Part;
+use crate::content::bind_of;
 use crate::content::image::{Header, Image};
-use crate::content::parse_nested;
 use crate::content::pose::{Position, Transform};
 use crate::fault::Fault;
 use crate::message::body::Layout;
@@ -25,11 +25,6 @@ pub fn write_image(header: &Header, pixels: &[u8], out: &mut [u8]) -> Written {
 }
 
 pub fn write_bind(types: &[&[u8]], names: &[&[u8]], contents: &[&[u8]], out: &mut [u8]) -> Written {
-    let bytes = encode_bind(types, names, contents)?;
-    store(&bytes, out)
-}
-
-fn encode_bind(types: &[&[u8]], names: &[&[u8]], contents: &[&[u8]]) -> Result<Vec<u8>, Fault> {
     if types.len() != names.len() || names.len() != contents.len() {
         return Err(Fault::Bind);
     }
@@ -42,11 +37,7 @@ fn encode_bind(types: &[&[u8]], names: &[&[u8]], contents: &[&[u8]]) -> Result<V
             data,
         })
         .collect::<Vec<_>>();
-    let bytes = bind::join(&parts).ok_or(Fault::Bind)?;
-    for part in &parts {
-        parse_nested(part.type_text, part.data)?;
-    }
-    Ok(bytes)
+    store(&bind_of(&parts)?.encode(), out)
 }
 
 pub fn write_header(header: &header::Header, out: &mut [u8]) -> Written {

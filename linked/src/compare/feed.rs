@@ -89,7 +89,7 @@ fn pushed(answer: &Answer, taken: usize, kept: usize) -> Pushed {
 fn label(answer: &Answer) -> Label {
     match answer {
         Answer::Nothing => Label::Word("nothing yet"),
-        Answer::Read(numbers) => Label::Number(u8::try_from(numbers[0]).expect("a number")),
+        Answer::Read(numbers) => Label::of_message(numbers),
         Answer::Refused(fault) => Label::Number(*fault as u8),
     }
 }

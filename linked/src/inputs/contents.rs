@@ -5,7 +5,7 @@ use super::stock::Stock;
 use super::{any_or_few, Input};
 use reference::content::image::Header;
 use reference::random::Random;
-use reference::vectors::{bundles, trees};
+use reference::vectors::{bundles, rests, trees};
 use std::ops::Range;
 
 const RULED: [&[u8]; 4] = [b"TRANSFORM", b"POSITION", b"IMAGE", b"BIND"];
@@ -21,6 +21,15 @@ impl Typed {
         Typed { type_text, content }
     }
 
+    /// Half of the time with something after the texts of a BIND's CTYPE fields, at all levels.
+    pub fn with_rests(mut self, random: &mut Random) -> Self {
+        if self.type_text == b"BIND" && random.below(2) == 0 {
+            let fields = rests::type_fields(&self.content);
+            self.content = rests::by_chance(random, &self.content, &fields);
+        }
+        self
+    }
+
     fn input(self) -> Input {
         let Typed { type_text, content } = self;
         Input::Content { type_text, content }
@@ -33,12 +42,12 @@ pub fn whole(random: &mut Random, stock: &Stock) -> Input {
         0 => stored(random, &stock.alike),
         _ => typed(random, stock),
     };
-    typed.input()
+    typed.with_rests(random).input()
 }
 
 /// One fault or two; now and then judged by another type's rule.
 pub fn with_faults(random: &mut Random, stock: &Stock) -> Input {
-    let mut typed = typed(random, stock);
+    let mut typed = typed(random, stock).with_rests(random);
     for _ in 0..random.pick(&[1, 1, 2]) {
         damage(random, &mut typed);
     }

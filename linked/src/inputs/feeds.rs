@@ -102,15 +102,15 @@ fn cut<'a>(random: &mut Random, stream: &'a [u8], lengths: &[usize]) -> Vec<&'a 
     fragments
 }
 
-/// The places around the end of each header and each message, and between the fields of an extended
-/// header.
+/// The places around the end of each header and each message, in its texts and between the fields of
+/// an extended header.
 fn marks(lengths: &[usize]) -> Vec<usize> {
     let mut start = 0;
     let marks = lengths.iter().flat_map(|length| {
         let at = start;
         start += length;
         let last = length.saturating_sub(1);
-        let places = [1, 57, 58, 59, 60, 62, 66, 70, last, *length];
+        let places = [1, 12, 14, 20, 34, 57, 58, 59, 60, 62, 66, 70, last, *length];
         places.map(|place| at + place)
     });
     let mut marks: Vec<usize> = marks.collect();

@@ -49,6 +49,7 @@ const KINDS: [Kind; 6] = [
             ("the largest body with its last byte changed", changed),
             ("65,534 children", || message_of(children(65_534))),
             ("65,535 children", || message_of(children(65_535))),
+            ("65,534 children, not clean", || message_of(unclean())),
             ("the first captured stream", || captured(0)),
             ("the second captured stream", || captured(1)),
         ],
@@ -58,6 +59,7 @@ const KINDS: [Kind; 6] = [
         &[
             ("65,534 children", || bind(children(65_534))),
             ("65,535 children", || bind(children(65_535))),
+            ("65,534 children, not clean", || bind(unclean())),
             ("a long child", || bind(long_child(0))),
             ("a long child with a wrong pad", || bind(long_child(1))),
             ("an image", || image(MORE)),
@@ -93,6 +95,12 @@ const KINDS: [Kind; 6] = [
             }),
             ("old layout, a section of 70,000 bytes", || {
                 section_in(Old, 70_000)
+            }),
+            ("65,534 children, not clean", || {
+                written(Sample::plain(b"BIND", &unclean()))
+            }),
+            ("three levels, not clean", || {
+                written(Sample::plain(b"BIND", &bundles::nest(2, &unclean())))
             }),
             ("new layout, 8,191 entries", || entries_in(New, 8_191)),
             ("new layout, 8,192 entries", || entries_in(New, 8_192)),
@@ -235,6 +243,12 @@ fn children(count: u16) -> Vec<u8> {
     let patches = [(0, count), (table_at, u16::MAX)];
     let length = table_at + 2 + u32::from(u16::MAX);
     Patched::new(length, &patches).content()
+}
+
+/// Of 65,534 with the last byte of the last CTYPE set.
+fn unclean() -> Vec<u8> {
+    let from_end = 65_546;
+    Patched::children(65_534).patch(from_end, 1).content()
 }
 
 fn message_of(bind: Vec<u8>) -> Input {

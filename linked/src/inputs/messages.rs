@@ -8,7 +8,7 @@ use reference::crc::crc;
 use reference::message::body::Layout;
 use reference::random::Random;
 use reference::vectors::samples::Sample;
-use reference::vectors::{metadata, streams};
+use reference::vectors::{metadata, rests, streams};
 use std::ops::Range;
 
 const HEADER: usize = 58;
@@ -48,7 +48,8 @@ pub fn any_body(random: &mut Random, stock: &Stock) -> Input {
     let length = random.below(70);
     let body = any_or_few(random, length);
     let type_text = contents::typed(random, stock).type_text;
-    let mut stream = Sample::plain(&type_text, &body).bytes();
+    let stream = Sample::plain(&type_text, &body).bytes();
+    let mut stream = with_rests(random, stream);
     stream[1] = random.pick(&[1, 2, 2, 2]);
     // Half of the time an extended header that keeps its rule.
     let layout = any_layout(random);
@@ -85,7 +86,7 @@ fn set_new_sizes(random: &mut Random, stream: &mut [u8]) {
 /// Now and then with bytes of a next one.
 pub fn whole(random: &mut Random, stock: &Stock) -> Input {
     let sample = sample(random, stock);
-    let mut stream = sample.bytes();
+    let mut stream = with_rests(random, sample.bytes());
     if random.below(8) == 0 {
         lengthen(random, &mut stream);
     }
@@ -125,9 +126,9 @@ pub fn captured(random: &mut Random, stock: &Stock) -> Input {
     match random.below(64) {
         0 => Input::Stream(layout, damaged_capture(random)),
         1..=8 => Input::Stream(layout, captured_stream(random, stock)),
-        9..=16 => Input::Front(layout, all[first].to_vec()),
+        9..=16 => Input::Front(layout, with_rests(random, all[first].to_vec())),
         _ => {
-            let mut stream = all[first].to_vec();
+            let mut stream = with_rests(random, all[first].to_vec());
             stream_fault(random, layout, &mut stream);
             mend_by_chance(random, &mut stream);
             Input::Front(layout, stream)
@@ -140,7 +141,9 @@ pub fn captured_stream(random: &mut Random, stock: &Stock) -> Vec<u8> {
     let all = &stock.captured;
     let first = random.below(all.len());
     let last = all.len().min(first + 1 + random.below(5));
-    let mut stream = all[first..last].concat();
+    let messages = all[first..last].iter();
+    let messages = messages.map(|message| with_rests(random, message.to_vec()));
+    let mut stream = messages.collect::<Vec<_>>().concat();
     let layout = any_layout(random);
     stream_fault(random, layout, &mut stream);
     stream
@@ -169,7 +172,28 @@ pub fn sample(random: &mut Random, stock: &Stock) -> Sample {
         sample.metadata = many_entries(random);
         sample.further = vec![edge(random); random.below(600)];
     }
+    let typed = take_content(&mut sample).with_rests(random);
+    give_content(&mut sample, typed);
     sample
+}
+
+/// The message half of the time with something after the texts in its header.
+pub fn with_rests(random: &mut Random, message: Vec<u8>) -> Vec<u8> {
+    if message.len() < HEADER || random.below(2) == 0 {
+        return message;
+    }
+    rests::by_chance(random, &message, &[rests::TYPE, rests::DEVICE_NAME])
+}
+
+fn take_content(sample: &mut Sample) -> Typed {
+    Typed {
+        type_text: std::mem::take(&mut sample.type_text),
+        content: std::mem::take(&mut sample.content),
+    }
+}
+
+fn give_content(sample: &mut Sample, typed: Typed) {
+    (sample.type_text, sample.content) = (typed.type_text, typed.content);
 }
 
 fn many_entries(random: &mut Random) -> Vec<u8> {
@@ -188,7 +212,7 @@ fn faulty(random: &mut Random, stock: &Stock, layout: Layout, faults: usize) -> 
     for _ in 0..inner {
         sample_fault(random, &mut sample);
     }
-    let mut stream = sample.bytes();
+    let mut stream = with_rests(random, sample.bytes());
     for _ in inner..faults {
         stream_fault(random, layout, &mut stream);
     }
@@ -204,12 +228,9 @@ pub fn sample_fault(random: &mut Random, sample: &mut Sample) {
         section_fault(random, &mut sample.metadata);
         return;
     }
-    let mut typed = Typed {
-        type_text: std::mem::take(&mut sample.type_text),
-        content: std::mem::take(&mut sample.content),
-    };
+    let mut typed = take_content(sample);
     contents::damage(random, &mut typed);
-    (sample.type_text, sample.content) = (typed.type_text, typed.content);
+    give_content(sample, typed);
 }
 
 fn section_fault(random: &mut Random, section: &mut Vec<u8>) {

@@ -1,11 +1,12 @@
 //! Scripts of calls on the panel.
 
 use super::damage::{change, edge};
+use super::messages::with_rests;
 use super::stock::Stock;
 use super::{any_or_few, Input};
 use reference::panel::Call;
 use reference::random::Random;
-use reference::script::decode;
+use reference::script::{decode, encode};
 use reference::vectors::scripts::chances::by_chance;
 use reference::vectors::scripts::encodings::short_call;
 use reference::vectors::scripts::Script;
@@ -13,9 +14,25 @@ use reference::vectors::scripts::Script;
 /// Up to so many calls a script is asked at every place.
 const SHORT: usize = 24;
 
+/// Half of the time with something after the texts in the messages.
 pub fn calls(random: &mut Random, stock: &Stock) -> Input {
-    let script = by_chance(random, &stock.others);
+    let mut script = by_chance(random, &stock.others);
+    if random.below(2) == 0 {
+        let calls = decode(&script.bytes).into_iter();
+        let calls = calls.map(|call| call_with_rests(random, call));
+        script.bytes = encode(&calls.collect::<Vec<_>>());
+    }
     asked(random, script)
+}
+
+fn call_with_rests(random: &mut Random, call: Call) -> Call {
+    match call {
+        Call::Message { clock, bytes } => Call::Message {
+            clock,
+            bytes: with_rests(random, bytes),
+        },
+        other => other,
+    }
 }
 
 pub fn damaged(random: &mut Random, stock: &Stock) -> Input {

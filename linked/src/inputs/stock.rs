@@ -1,5 +1,6 @@
 //! Samples that are not made by chance, put together once.
 
+use reference::random::Random;
 use reference::vectors::samples::Sample;
 use reference::vectors::scripts::chances;
 use reference::vectors::{bundles, contents, headers, images};
@@ -15,7 +16,7 @@ pub struct Stock {
     pub texts: Vec<[&'static [u8]; 2]>,
     /// What a writer is given, sound or with a fault.
     pub written: Vec<Sample>,
-    /// Messages for the panel that no tile shows.
+    /// Messages for the panel: such that no tile shows, and such that are not clean.
     pub others: Vec<Vec<u8>>,
     /// The messages that the released library wrote.
     pub captured: Vec<&'static [u8]>,
@@ -25,13 +26,14 @@ impl Stock {
     pub fn new() -> Self {
         let written = [message_writers::samples(), messages::contents()];
         let captured = streams::CAPTURES.into_iter();
+        let marked = chances::marked_messages(&mut Random::new(1));
         Stock {
             contents: ruled(),
             alike: contents::exact_texts(),
             sections: metadata::samples(),
             texts: headers::texts_written(),
             written: written.concat(),
-            others: chances::other_messages(),
+            others: [chances::other_messages(), marked].concat(),
             captured: captured.flat_map(streams::messages).collect(),
         }
     }

@@ -2,12 +2,14 @@
 //! these hold.
 //!
 //! A content is taken apart without asking whether its fields agree. It keeps the rule if putting
-//! the parts together again gives the same bytes.
+//! the parts together again gives the same bytes but for what follows the text in a CTYPE field.
 
 use crate::cursor::Cursor;
 use crate::text;
 
+/// Of the CTYPE field, and of the header of a child.
 const TYPE_LENGTH: usize = 12;
+const HEADER_LENGTH: usize = 20;
 
 /// A child, as parts of the content or as given to a writer.
 #[derive(Clone, Copy, Debug, PartialEq, Eq)]
@@ -20,7 +22,16 @@ pub struct Part<'a> {
 /// The children of a content, or nothing where it breaks the layout's rule.
 pub fn split(content: &[u8]) -> Option<Vec<Part<'_>>> {
     let parts = take_apart(content)?;
-    (join(&parts)? == content).then_some(parts)
+    (join(&parts)? == with_clear_types(content, parts.len())).then_some(parts)
+}
+
+/// The content with zeros after the texts in so many CTYPE fields.
+fn with_clear_types(content: &[u8], count: usize) -> Vec<u8> {
+    let mut content = content.to_vec();
+    for header in content[2..].chunks_mut(HEADER_LENGTH).take(count) {
+        text::clear_rest(&mut header[..TYPE_LENGTH]);
+    }
+    content
 }
 
 /// The content of these children, or nothing where one of their texts, the count or the table does
@@ -110,6 +121,22 @@ mod tests {
         assert_eq!(split(&content[..content.len() - 1]), None);
         let longer = [&content[..], &[0]].concat();
         assert_eq!(split(&longer), None);
+    }
+
+    #[test]
+    fn what_follows_the_text_of_a_type_is_any() {
+        let two = [one_child(b"A", b"1"), one_child(b"", b"2")].concat();
+        let content = join(&two).unwrap();
+        for (place, value) in [(12, 1), (13, 0xFF), (32, b'A'), (33, 0x80)] {
+            let mut content = content.clone();
+            content[place] = value;
+            assert_eq!(split(&content), Some(two.clone()));
+        }
+        for place in [10, 11, 31, 44, 47, 49] {
+            let mut content = content.clone();
+            content[place] = 0x80;
+            assert_eq!(split(&content), None, "{place}");
+        }
     }
 
     #[test]

@@ -1,5 +1,6 @@
 //! The header of a message: 58 bytes, taken apart without asking whether its texts are texts. They
-//! are if putting the fields together again gives the same bytes.
+//! are if the fields can be put together again. The bytes are the same then where only zeros follow
+//! the texts.
 
 use crate::cursor::Cursor;
 use crate::fault::Fault;
@@ -25,8 +26,14 @@ impl<'a> Header<'a> {
     /// The header at the front of a stream, or its first fault.
     pub fn parse(stream: &'a [u8]) -> Result<Self, Fault> {
         let bytes = stream.get(..LENGTH).ok_or(Fault::Short)?;
-        let header = Header::split(bytes).ok_or(Fault::Text)?;
-        header.fault_of_size().map_or(Ok(header), Err)
+        let header = Header::take_apart(bytes).ok_or(Fault::Short)?;
+        header.encode().map(|_| header)
+    }
+
+    /// Whether a stream that this was read from begins with its bytes: only zeros follow the texts
+    /// there.
+    pub fn is_clean(&self, stream: &[u8]) -> bool {
+        self.encode().is_ok_and(|bytes| stream.starts_with(&bytes))
     }
 
     /// The bytes of the header, or its first fault.
@@ -37,12 +44,6 @@ impl<'a> Header<'a> {
 
     fn fault_of_size(&self) -> Option<Fault> {
         (self.body_size > LIMIT).then_some(Fault::Limit)
-    }
-
-    /// The fields, where putting them together gives the same bytes.
-    fn split(bytes: &'a [u8]) -> Option<Self> {
-        let header = Header::take_apart(bytes)?;
-        (header.join()? == bytes).then_some(header)
     }
 
     /// The fields put together, where the texts are texts that fit.
@@ -102,7 +103,19 @@ mod tests {
         assert_eq!(bytes[14..18], *b"Arm\0");
         assert_eq!(bytes[41..43], [1, 0]);
         assert_eq!(Header::parse(&bytes), Ok(arm()));
+        assert!(arm().is_clean(&bytes));
         assert_eq!(Header::parse(&bytes[..57]), Err(Fault::Short));
+    }
+
+    #[test]
+    fn what_follows_a_text_is_no_part_of_it() {
+        let bytes = arm().encode().unwrap();
+        for (place, value) in [(18, b'A'), (18, 0xFF), (33, 1), (33, 0x80)] {
+            let mut bytes = bytes.clone();
+            bytes[place] = value;
+            assert_eq!(Header::parse(&bytes), Ok(arm()));
+            assert!(!arm().is_clean(&bytes));
+        }
     }
 
     #[test]
@@ -120,7 +133,9 @@ mod tests {
         let mut bytes = arm().encode().unwrap();
         bytes[49] = 1;
         assert_eq!(Header::parse(&bytes), Err(Fault::Limit));
-        bytes[33] = b'A';
+        bytes[33] = 0x80;
+        assert_eq!(Header::parse(&bytes), Err(Fault::Limit));
+        bytes[16] = 0x80;
         assert_eq!(Header::parse(&bytes), Err(Fault::Text));
     }
 

@@ -33,6 +33,11 @@ impl Case {
         numbers.into_iter().fold(self, Case::number)
     }
 
+    /// One more word of the line: 1 where all texts are clean, otherwise 0.
+    pub fn mark(self, clean: bool) -> Self {
+        self.number(u8::from(clean))
+    }
+
     /// One more word of the line: two digits for each byte, or a dash where there is none.
     pub fn bytes(self, bytes: &[u8]) -> Self {
         let start = self.text(if bytes.is_empty() { " -" } else { " " });
@@ -84,9 +89,17 @@ pub fn digits(bytes: &[u8]) -> String {
     bytes.iter().map(|byte| format!("{byte:02x}")).collect()
 }
 
+/// The bytes of such digits, which may stand apart.
+pub fn from_digits(digits: &str) -> Vec<u8> {
+    let digits: String = digits.split_whitespace().collect();
+    let places = (0..digits.len()).step_by(2);
+    let byte = |place| u8::from_str_radix(&digits[place..place + 2], 16).expect("two digits");
+    places.map(byte).collect()
+}
+
 #[cfg(test)]
 mod tests {
-    use super::{input, output, Case};
+    use super::{digits, from_digits, input, output, Case};
     use crate::message::body::Layout;
 
     #[test]
@@ -95,6 +108,12 @@ mod tests {
         let cases = [case.words(&[0xAB])];
         assert!(input(&cases).starts_with(&[0, 5, b'T', 0, 2, 1, 2]));
         assert_eq!(output(&cases), b"T 8 - 000000ab\n");
+    }
+
+    #[test]
+    fn two_digits_for_a_byte() {
+        assert_eq!(from_digits("00 7f\nA0 Ff"), [0, 0x7F, 0xA0, 0xFF]);
+        assert_eq!(digits(&from_digits("007fa0ff")), "007fa0ff");
     }
 
     #[test]

@@ -26,39 +26,41 @@ pub fn cases() -> Vec<Case> {
 }
 
 /// All that is answered of one bundle: the count, the child of a number, the child of a name.
-fn lookup_case(content: &[u8], index: u64, name: &[u8]) -> Case {
+pub fn lookup_case(content: &[u8], index: u64, name: &[u8]) -> Case {
     let case = Case::of_kind('L').given(content);
     answered(case, content, index, name)
 }
 
 fn answered(case: Case, content: &[u8], index: u64, name: &[u8]) -> Case {
-    let children = count(content);
+    let counted = count(content);
     let numbered = by_number(content, index);
     let named = by_name(content, name);
     let text = |text: fn(&Found) -> Vec<u8>| numbered.as_ref().map_or(Vec::new(), text);
     let case = case
         .given(&index.to_be_bytes())
         .given(name)
-        .number(number(&children))
-        .number(children.unwrap_or(0))
+        .number(number(&counted))
+        .number(counted.unwrap_or_default().children)
+        .mark(counted.unwrap_or_default().clean)
         .bytes(&text(|found| found.child.type_text.to_vec()))
         .bytes(&text(|found| found.child.name.to_vec()));
     placed(placed(case, &numbered), &named)
 }
 
-/// The number, the place and the bytes of a child; nothing of it where refused.
+/// The number, the place, the mark and the bytes of a child; nothing of it where refused.
 fn placed(case: Case, found: &Result<Found, Fault>) -> Case {
-    let (at, data) = match found {
-        Ok(found) => (found.at, found.child.data),
-        Err(_) => (0, &[][..]),
+    let (at, data, clean) = match found {
+        Ok(found) => (found.at, found.child.data, found.clean),
+        Err(_) => (0, &[][..], false),
     };
     case.number(number(found))
         .number(at)
         .number(data.len())
+        .mark(clean)
         .bytes(data)
 }
 
-fn either_case(site: &[u8], default: &[u8], name: &[u8]) -> Case {
+pub fn either_case(site: &[u8], default: &[u8], name: &[u8]) -> Case {
     let answer = either(site, default, name);
     let source = match &answer {
         Ok((Source::Site, _)) => 1,
@@ -85,7 +87,7 @@ fn every_sample() -> Vec<Case> {
 /// Each number of each sound bundle, and some past the count.
 fn numbers() -> Vec<Case> {
     let of_bundle = |content: &Vec<u8>| {
-        let count = count(content).expect("a sound bundle") as u64;
+        let count = count(content).expect("a sound bundle").children as u64;
         let past = [count + 1, 255, 65_535, 65_536, 1 << 32, 1 << 63, u64::MAX];
         let numbers = (0..=count).chain(past);
         let cases = numbers.map(|index| lookup_case(content, index, b""));
@@ -142,12 +144,15 @@ fn many_children() -> Vec<Case> {
         (&last_named, 65_532, b"\x01"),
         (&last_named, 65_533, b"\x02"),
     ];
-    let cases = cases.map(|(patched, index, name)| {
-        let [length, changes] = patched.fields();
-        let case = Case::of_kind('M').given(&length).given(&changes);
-        answered(case, &patched.content(), index, name)
-    });
+    let cases = cases.map(|(patched, index, name)| patched_case(patched, index, name));
     cases.to_vec()
+}
+
+/// A bundle too long for a record.
+pub fn patched_case(patched: &Patched, index: u64, name: &[u8]) -> Case {
+    let [length, changes] = patched.fields();
+    let case = Case::of_kind('M').given(&length).given(&changes);
+    answered(case, &patched.content(), index, name)
 }
 
 /// A bundle for each number that its check can give, the sound ones with names in common.

@@ -7,7 +7,7 @@ use super::patched::Patched;
 use super::{images, trees};
 use crate::content::image::{Header, Image};
 use crate::content::pose::{Position, Transform};
-use crate::content::{parse, parse_nested};
+use crate::content::{is_clean, parse, parse_nested};
 use crate::fault::number;
 use crate::random::Random;
 
@@ -121,13 +121,17 @@ fn image_case(content: &[u8]) -> Case {
         .bytes(&pixels)
 }
 
-fn typed_case(type_text: &[u8], content: &[u8]) -> Case {
-    Case::of_kind('C')
-        .given(type_text)
-        .given(content)
-        .number(number(&parse(type_text, content)))
-        .number(number(&parse_nested(type_text, content)))
-        .number(number(&parse(b"BIND", content)))
+pub fn typed_case(type_text: &[u8], content: &[u8]) -> Case {
+    let case = Case::of_kind('C').given(type_text).given(content);
+    let as_message = judged(case, type_text, content);
+    let as_child = as_message.number(number(&parse_nested(type_text, content)));
+    judged(as_child, b"BIND", content)
+}
+
+/// The number and the mark of a message's content.
+fn judged(case: Case, type_text: &[u8], content: &[u8]) -> Case {
+    case.number(number(&parse(type_text, content)))
+        .mark(is_clean(type_text, content))
 }
 
 fn typed(random: &mut Random) -> Vec<(Vec<u8>, Vec<u8>)> {
@@ -197,11 +201,11 @@ fn patched() -> Vec<Case> {
     binds.chain(images).collect()
 }
 
-fn patched_case(type_text: &[u8], patched: &Patched) -> Case {
+pub fn patched_case(type_text: &[u8], patched: &Patched) -> Case {
     let [length, changes] = patched.fields();
-    Case::of_kind('Z')
+    let case = Case::of_kind('Z')
         .given(type_text)
         .given(&length)
-        .given(&changes)
-        .number(number(&parse(type_text, &patched.content())))
+        .given(&changes);
+    judged(case, type_text, &patched.content())
 }

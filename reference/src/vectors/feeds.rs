@@ -6,6 +6,7 @@ mod examples;
 mod layouts;
 mod lengths;
 mod refusals;
+mod rests;
 mod rooms;
 
 use super::case::{digits, field};
@@ -31,6 +32,7 @@ pub fn feeds() -> Vec<Pushes> {
         refusals::feeds(),
         captures::feeds(),
         layouts::feeds(),
+        rests::feeds(),
     ]
     .concat()
 }
@@ -57,6 +59,17 @@ fn cut_at(room: usize, stream: &[u8], places: &[usize]) -> Pushes {
     let ends = places.iter().copied().chain([stream.len()]);
     let fragments = starts.zip(ends).map(|(&start, end)| &stream[start..end]);
     feed(room, &fragments.collect::<Vec<_>>())
+}
+
+/// A stream of messages, each of them cut at these places of it, which ascend.
+fn cut_each(room: usize, messages: &[Vec<u8>], places: &[usize]) -> Pushes {
+    let starts = messages.iter().scan(0, |next, message| {
+        let start = *next;
+        *next += message.len();
+        Some(start)
+    });
+    let places = starts.flat_map(|start| places.iter().map(move |place| start + place));
+    cut_at(room, &messages.concat(), &places.collect::<Vec<_>>())
 }
 
 /// The stream in fragments by chance, each shorter than one of these bounds. A bound of 1 gives

@@ -41,9 +41,10 @@ pub fn cases() -> Vec<Case> {
     .concat()
 }
 
-fn header_case(stream: &[u8]) -> Case {
+pub fn header_case(stream: &[u8]) -> Case {
     let header = Header::parse(stream);
     let answer = number(&header);
+    let clean = header.is_ok_and(|header| header.is_clean(stream));
     let header = header.unwrap_or_default();
     let [type_text, device_name] = Header::texts(stream);
     Case::of_kind('H')
@@ -53,6 +54,7 @@ fn header_case(stream: &[u8]) -> Case {
         .numbers([header.type_text.len(), header.device_name.len()])
         .numbers([header.time_stamp, header.body_size])
         .bytes(&header.crc.to_be_bytes())
+        .mark(clean)
         .bytes(type_text)
         .bytes(device_name)
 }
@@ -136,7 +138,7 @@ fn stamp_case(time_stamp: u64) -> Case {
         .numbers([seconds(time_stamp), nanoseconds(time_stamp)])
 }
 
-fn written_case(header: &Header, out: Out) -> Case {
+pub fn written_case(header: &Header, out: Out) -> Case {
     let numbers = [header.time_stamp, header.body_size, header.crc];
     let numbers = numbers.map(u64::to_be_bytes).concat();
     let case = out

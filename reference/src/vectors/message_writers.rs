@@ -27,7 +27,7 @@ pub fn cases() -> Vec<Case> {
     .concat()
 }
 
-fn written_case(sample: &Sample, out: Out) -> Case {
+pub fn written_case(sample: &Sample, out: Out) -> Case {
     let case = begun(sample, out, 'w')
         .given(&sample.further)
         .given(&sample.content)
@@ -202,7 +202,7 @@ fn contents() -> Vec<Case> {
     samples.map(|sample| exact_case(&sample)).collect()
 }
 
-fn exact_case(sample: &Sample) -> Case {
+pub fn exact_case(sample: &Sample) -> Case {
     written_case(sample, Out::new(length(sample)))
 }
 

@@ -17,7 +17,7 @@ pub fn cases() -> Vec<Case> {
     cases.chain(random_cases(&mut random)).collect()
 }
 
-fn value_case(section: &[u8], key: &[u8]) -> Case {
+pub fn value_case(section: &[u8], key: &[u8]) -> Case {
     let found = find(section, key);
     let (encoding, at, value) = match &found {
         Ok(found) => (found.entry.encoding, found.at, found.entry.value),

@@ -7,6 +7,7 @@ pub mod encodings;
 mod layouts;
 mod links;
 mod refusals;
+mod rests;
 mod sizes;
 mod tiles;
 
@@ -35,6 +36,7 @@ fn named() -> Vec<Script> {
         tiles::scripts(),
         encodings::scripts(),
         layouts::scripts(),
+        rests::scripts(),
     ]
     .concat()
 }

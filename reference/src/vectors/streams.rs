@@ -30,6 +30,9 @@ pub fn cases() -> Vec<Case> {
         vec![new_layout()],
         new,
         mixed(),
+        Layout::BOTH
+            .map(|layout| between(layout, &without_text(layout)))
+            .to_vec(),
     ];
     streams.concat().iter().map(|stream| case(stream)).collect()
 }
@@ -110,8 +113,9 @@ fn short_streams() -> Vec<Vec<u8>> {
     streams.chain([longer, twice]).collect()
 }
 
-/// A message for each number of the reader, from 2 on; those of 4 and above step.
-pub fn refused(layout: Layout) -> Vec<Vec<u8>> {
+/// A message that is accepted, though the text of its device name is not followed by zeros alone,
+/// and one for each number of the reader from 3 on; those of 4 and above step.
+pub fn of_each_number(layout: Layout) -> Vec<Vec<u8>> {
     let mut streams = with_changes(
         &Sample::extended(layout),
         [
@@ -131,19 +135,30 @@ pub fn refused(layout: Layout) -> Vec<Vec<u8>> {
     streams
 }
 
-/// Each of them between two sound messages.
+/// A message whose device name is no text, which is answered 2.
+pub fn without_text(layout: Layout) -> Vec<u8> {
+    let mut fields = Fields::of(&Sample::extended(layout));
+    fields.name_field[3] = 0x80;
+    fields.bytes()
+}
+
+/// Each of those for other numbers between two sound messages.
 pub fn between_sound_ones(layout: Layout) -> Vec<Vec<u8>> {
+    let streams = of_each_number(layout).into_iter();
+    streams.map(|stream| between(layout, &stream)).collect()
+}
+
+/// A message between two sound ones.
+pub fn between(layout: Layout, message: &[u8]) -> Vec<u8> {
     let first = Sample::extended(layout).bytes();
     let last = Sample::plain(b"TRANSFORM", &[7; 48]).bytes();
-    let streams = refused(layout).into_iter();
-    let streams = streams.map(|stream| [&first[..], &stream, &last].concat());
-    streams.collect()
+    [&first, message, &last].concat()
 }
 
 /// A sound message of each layout, between them one for each number from 4 on, in both layouts.
 fn mixed() -> Vec<Vec<u8>> {
     let [first, last] = Layout::BOTH.map(|layout| Sample::extended(layout).bytes());
-    let [new, old] = Layout::BOTH.map(refused);
+    let [new, old] = Layout::BOTH.map(of_each_number);
     let pairs = new.into_iter().zip(old).skip(2);
     let streams = pairs.map(|(new, old)| [&first[..], &old, &new, &last].concat());
     streams.collect()
@@ -151,7 +166,7 @@ fn mixed() -> Vec<Vec<u8>> {
 
 /// Each of those of the old layout that step before each.
 fn pairs() -> Vec<Vec<u8>> {
-    let refused = &refused(Layout::Old)[2..];
+    let refused = &of_each_number(Layout::Old)[2..];
     let of_first = |first: &Vec<u8>| {
         let streams = refused.iter().map(|second| [&first[..], second].concat());
         streams.collect::<Vec<_>>()
@@ -177,7 +192,8 @@ fn by_chance(random: &mut Random) -> Vec<Vec<u8>> {
 
 #[cfg(test)]
 mod tests {
-    use super::{listing_input, messages, mixed, new_layout, refused, Layout, CAPTURES};
+    use super::{listing_input, messages, mixed, new_layout, of_each_number, without_text};
+    use super::{Layout, CAPTURES};
     use crate::fault::number;
     use crate::listing::{lines, table, Line};
     use crate::message::read;
@@ -209,12 +225,17 @@ mod tests {
     }
 
     #[test]
-    fn a_refused_message_for_each_number() {
+    fn a_message_for_each_number() {
         for layout in Layout::BOTH {
-            let streams = refused(layout);
+            let streams = of_each_number(layout);
             let readings = streams.iter().map(|stream| read(layout, stream));
-            let answers = readings.map(|reading| number(&reading.message));
-            assert!(answers.eq(2..=11));
+            let answers = readings.map(|reading| {
+                assert!(!reading.clean);
+                number(&reading.message)
+            });
+            assert!(answers.eq([0].into_iter().chain(3..=11)));
+            let stream = without_text(layout);
+            assert_eq!(number(&read(layout, &stream).message), 2);
         }
     }
 

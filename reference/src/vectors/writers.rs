@@ -75,14 +75,14 @@ fn image_case(header: &Header, pixels: &[u8], out: Out) -> Case {
 
 /// What a BIND writer is given: three lists, which may differ in length.
 #[derive(Clone, Default)]
-struct Lists<'a> {
+pub struct Lists<'a> {
     types: Vec<&'a [u8]>,
     names: Vec<&'a [u8]>,
     contents: Vec<&'a [u8]>,
 }
 
 impl<'a> Lists<'a> {
-    fn of(parts: &[Part<'a>]) -> Self {
+    pub fn of(parts: &[Part<'a>]) -> Self {
         Lists {
             types: parts.iter().map(|part| part.type_text).collect(),
             names: parts.iter().map(|part| part.name).collect(),
@@ -96,14 +96,14 @@ impl<'a> Lists<'a> {
 
     /// The bytes that it takes; where it is refused, about as many as it would take, so that
     /// a buffer touched all the same shows.
-    fn length(&self) -> usize {
+    pub fn length(&self) -> usize {
         let items = self.names.iter().chain(&self.contents);
         let about = 4 + 20 * self.types.len() + items.map(|item| item.len() + 1).sum::<usize>();
         let written = Out::new(about + 4).after(|out| self.write(out)).0;
         written.unwrap_or(about)
     }
 
-    fn case(&self, out: Out) -> Case {
+    pub fn case(&self, out: Out) -> Case {
         let case = out
             .case('b')
             .given(&list(&self.types))

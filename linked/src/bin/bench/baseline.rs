@@ -3,6 +3,7 @@
 //! which says what its functions answer.
 
 pub mod bundle;
+pub mod cleaning;
 pub mod content;
 pub mod crc64;
 pub mod fields;

@@ -9,6 +9,7 @@ use reference::message::metadata::{self, Entry};
 use reference::message::Message;
 use reference::panel::Call;
 use reference::script;
+use reference::vectors::rests::type_fields;
 
 /// Bytes of every value, in no simple order.
 pub fn bytes(n: usize) -> Vec<u8> {
@@ -101,6 +102,15 @@ pub fn bind(n: usize, type_text: &[u8], data: &[u8]) -> Vec<u8> {
         data,
     };
     bind::join(&vec![child; n]).expect("a sound BIND")
+}
+
+/// The same with a byte at the end of each CTYPE field.
+pub fn unclean_bind(n: usize, type_text: &[u8], data: &[u8]) -> Vec<u8> {
+    let mut content = bind(n, type_text, data);
+    for field in type_fields(&content) {
+        content[field.end - 1] = 0xC8;
+    }
+    content
 }
 
 // ---- scripts

@@ -12,6 +12,7 @@ mod rust;
 mod table;
 mod timing;
 
+use reference::message::Message;
 use std::hint::black_box;
 use table::{print_rows, Per, Row};
 use timing::{alternate, timer};
@@ -31,7 +32,9 @@ fn main() {
     print_rows("BIND of empty children", Per::Child, &empty);
     let transforms = counts.map(|n| bind(n, b"TRANSFORM", &inputs::bytes(48)));
     print_rows("BIND of TRANSFORMs", Per::Child, &transforms);
-    print_rows("writer, message", Per::Byte, &[writer()]);
+    print_rows("writer, message", Per::Byte, &[transform_writer()]);
+    let written = counts.map(bind_writer);
+    print_rows("writer, BIND of TRANSFORMs", Per::Child, &written);
     panel::print_costs();
     feed::print_costs();
 }
@@ -87,23 +90,30 @@ fn bind(n: usize, type_text: &[u8], data: &[u8]) -> Row {
     Row::new(&n.to_string(), n, times)
 }
 
-fn writer() -> Row {
+fn transform_writer() -> Row {
     let content = inputs::bytes(48);
     let message = inputs::plain(b"TRANSFORM", &content);
     let length = inputs::encoded(&message).len();
+    writer("TRANSFORM", &message, length)
+}
+
+/// A BIND whose CTYPEs are not clean.
+fn bind_writer(n: usize) -> Row {
+    let content = inputs::unclean_bind(n, b"TRANSFORM", &inputs::bytes(48));
+    writer(&n.to_string(), &inputs::plain(b"BIND", &content), n)
+}
+
+fn writer(name: &str, message: &Message, per: usize) -> Row {
+    let length = inputs::encoded(message).len();
     let layout = inputs::LAYOUT;
     let (mut ours, mut rust) = (vec![0; length], vec![0; length]);
     let written = (0, length);
-    assert_eq!(
-        linked::write(layout, &message, &mut ours),
-        written,
-        "writer"
-    );
-    assert_eq!(rust::write(layout, &message, &mut rust), written, "writer");
-    assert_eq!(ours, rust, "writer");
+    assert_eq!(linked::write(layout, message, &mut ours), written, "{name}");
+    assert_eq!(rust::write(layout, message, &mut rust), written, "{name}");
+    assert_eq!(ours, rust, "{name}");
     let times = alternate([
-        timer(|| linked::write(black_box(layout), black_box(&message), black_box(&mut ours))),
-        timer(|| rust::write(black_box(layout), black_box(&message), black_box(&mut rust))),
+        timer(|| linked::write(black_box(layout), black_box(message), black_box(&mut ours))),
+        timer(|| rust::write(black_box(layout), black_box(message), black_box(&mut rust))),
     ]);
-    Row::new("TRANSFORM", length, times)
+    Row::new(name, per, times)
 }

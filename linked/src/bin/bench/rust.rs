@@ -39,6 +39,7 @@ pub fn read_fields(layout: Layout, stream: &[u8]) -> [u64; linked::FIELDS] {
         answer.content_len as u64,
         answer.metadata_at as u64,
         answer.metadata_len as u64,
+        answer.clean.into(),
     ]
 }
 

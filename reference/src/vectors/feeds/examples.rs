@@ -115,7 +115,7 @@ mod tests {
     const WRONG: &str = "0000000000000001000000000000000001";
 
     /// What the first is answered, but for the bytes taken.
-    const ACCEPTED: &str = "0 read 0 58 1 10 3 0 0 58 0 58 0 58 0";
+    const ACCEPTED: &str = "0 read 0 58 1 10 3 0 0 58 0 58 0 58 0 1";
 
     fn assert_lines(feed: &Pushes, expected: &[&str], buffer: &str) {
         let expected = expected.join("\n");
@@ -139,7 +139,7 @@ mod tests {
         let accepted = format!("1 {ACCEPTED}");
         let buffer = format!("{FRONT}{SOUND}");
         assert_lines(&alone, &["57 57 nothing", &accepted], &buffer);
-        let next = "59 0 read 20 59 0 0 0 0 0 0 0 0 0 0 0";
+        let next = "59 0 read 20 59 0 0 0 0 0 0 0 0 0 0 0 0";
         let buffer = format!("{FRONT}{}", &WRONG[..32]);
         assert_lines(&with_next, &["57 57 nothing", &accepted, next], &buffer);
     }
@@ -147,7 +147,7 @@ mod tests {
     #[test]
     fn the_3rd_a_message_of_59_bytes_exceeds_58() {
         let accepted = format!("58 {ACCEPTED}");
-        let exceeds = "59 0 read 20 59 0 0 0 0 0 0 0 0 0 0 0";
+        let exceeds = "59 0 read 20 59 0 0 0 0 0 0 0 0 0 0 0 0";
         let buffer = format!("{FRONT}{}", &WRONG[..32]);
         assert_lines(&one_byte_too_many(), &[&accepted, exceeds], &buffer);
     }
@@ -156,7 +156,7 @@ mod tests {
     fn the_4th_a_message_of_59_bytes_fits_59() {
         let [exact, wider] = both_fit();
         let accepted = format!("58 {ACCEPTED}");
-        let expected = [&accepted[..], "59 0 read 5 59 0 0 0 0 0 0 0 0 0 0 0"];
+        let expected = [&accepted[..], "59 0 read 5 59 0 0 0 0 0 0 0 0 0 0 0 0"];
         assert_lines(&exact, &expected, &format!("{FRONT}{WRONG}"));
         assert_lines(&wider, &expected, &format!("{FRONT}{WRONG}eeeeeeeeee"));
     }
@@ -166,7 +166,7 @@ mod tests {
     fn the_5th_three_messages_byte_by_byte() {
         let expected = (1..=175).map(|place| match place {
             58 | 175 => format!("1 {ACCEPTED}"),
-            117 => "1 0 read 5 59 0 0 0 0 0 0 0 0 0 0 0".to_string(),
+            117 => "1 0 read 5 59 0 0 0 0 0 0 0 0 0 0 0 0".to_string(),
             1..=57 => format!("1 {place} nothing"),
             59..=116 => format!("1 {} nothing", place - 58),
             _ => format!("1 {} nothing", place - 117),
@@ -179,7 +179,7 @@ mod tests {
     #[test]
     fn the_6th_a_type_that_is_no_text_stops_the_feed() {
         let expected = [
-            "58 0 read 2 0 0 0 0 0 0 0 0 0 0 0 0",
+            "58 0 read 2 0 0 0 0 0 0 0 0 0 0 0 0 0",
             "0 0 refused 21",
             "0 0 refused 21",
         ];
@@ -189,7 +189,7 @@ mod tests {
 
     #[test]
     fn the_7th_a_body_above_the_limit_stops_the_feed() {
-        let expected = ["58 0 read 3 0 0 0 0 0 0 0 0 0 0 0 0", "0 0 refused 21"];
+        let expected = ["58 0 read 3 0 0 0 0 0 0 0 0 0 0 0 0 0", "0 0 refused 21"];
         let buffer = format!("{FRONT}00000000010000010000000000000000");
         assert_lines(&above_the_limit(), &expected, &buffer);
     }
@@ -205,9 +205,9 @@ mod tests {
     fn the_9th_v_3_is_looked_at_where_the_message_fits() {
         let [fits, exceeds] = another_version();
         let front = FRONT.replacen("0001", "0003", 1);
-        let expected = ["59 0 read 4 59 0 0 0 0 0 0 0 0 0 0 0"];
+        let expected = ["59 0 read 4 59 0 0 0 0 0 0 0 0 0 0 0 0"];
         assert_lines(&fits, &expected, &format!("{front}{WRONG}"));
-        let expected = ["59 0 read 20 59 0 0 0 0 0 0 0 0 0 0 0"];
+        let expected = ["59 0 read 20 59 0 0 0 0 0 0 0 0 0 0 0 0"];
         assert_lines(&exceeds, &expected, &format!("{front}{}", &WRONG[..32]));
     }
 
@@ -217,7 +217,7 @@ mod tests {
             "58 0 nothing",
             "99 0 nothing",
             "0 0 nothing",
-            "1 0 read 20 158 0 0 0 0 0 0 0 0 0 0 0",
+            "1 0 read 20 158 0 0 0 0 0 0 0 0 0 0 0 0",
         ];
         let rest = "ee".repeat(42);
         let buffer = format!("{FRONT}00000000000000640000000000000000{rest}");

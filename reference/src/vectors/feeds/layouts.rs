@@ -1,6 +1,6 @@
 //! Messages of V 2 in both layouts, pushed to feeds of both.
 
-use super::{by_chance, cut_at, feed, opened_in, pieces, MEDIUM};
+use super::{by_chance, cut_each, feed, opened_in, pieces, MEDIUM};
 use crate::feed::Pushes;
 use crate::message::body::Layout;
 use crate::random::Random;
@@ -37,20 +37,7 @@ fn messages() -> [Vec<u8>; 5] {
 /// Each message cut at each place of the twelve bytes that the layouts differ in, and between all
 /// of their fields.
 fn inside_the_extended_header() -> Vec<Pushes> {
-    let messages = messages();
-    let stream = messages.concat();
-    let starts = messages.iter().scan(0, |next, message| {
-        let start = *next;
-        *next += message.len();
-        Some(start)
-    });
-    let starts: Vec<usize> = starts.collect();
-    let cut = |places: &[usize]| {
-        let places = starts
-            .iter()
-            .flat_map(|start| places.iter().map(move |place| start + place));
-        cut_at(MEDIUM, &stream, &places.collect::<Vec<_>>())
-    };
+    let cut = |places: &[usize]| cut_each(MEDIUM, &messages(), places);
     let single = (58..=70).map(|place| cut(&[place]));
     single.chain([cut(&[60, 62, 66, 70])]).collect()
 }
@@ -106,8 +93,8 @@ mod tests {
         }
     }
 
-    /// The first message is refused; the last one is of V 1. Between them are those for 2 and 3,
-    /// which end the stream, and for 4, 5, and 11, which is of V 1 too.
+    /// The first message is refused; the last one is of V 1. Between them are those for 3, which
+    /// ends the stream, and for 4, 5, and 11, which is of V 1 too.
     #[test]
     fn streams_of_the_other_layout() {
         for layout in Layout::BOTH {
@@ -115,7 +102,8 @@ mod tests {
             let numbers = feeds.map(|feed| answers(&opened_in(layout, feed)));
             let numbers: Vec<_> = numbers.step_by(2).collect();
             let of_version_1 = [vec![6, 4, 0], vec![6, 5, 0]];
-            assert_eq!(numbers[..2], [[6, 2], [6, 3]]);
+            assert_eq!(numbers[0], [6, 6, 0]);
+            assert_eq!(numbers[1], [6, 3]);
             assert_eq!(numbers[2..4], of_version_1);
             assert!(numbers[4..9].iter().all(|numbers| *numbers == [6, 6, 0]));
             assert_eq!(numbers[9], [6, 11, 0]);

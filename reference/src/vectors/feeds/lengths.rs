@@ -62,7 +62,7 @@ mod tests {
     fn openings_over_several_lengths() {
         let untouched = |room: usize| format!("opened\nbuffer {}\n", "ee".repeat(room));
         let status = Sample::plain(b"GET_STATUS", &[]).bytes();
-        let pushes = "58 0 read 0 58 1 10 3 0 0 58 0 58 0 58 0\n0 0 nothing\n";
+        let pushes = "58 0 read 0 58 1 10 3 0 0 58 0 58 0 58 0 1\n0 0 nothing\n";
         let refused = "refused 20\n".to_string();
         let expected = [
             refused.clone(),
@@ -80,9 +80,9 @@ mod tests {
     #[test]
     fn another_length_changes_nothing() {
         let refused = |kept: usize| format!("0 {kept} refused 20\n").repeat(2);
-        let zeros = " 0".repeat(11);
+        let zeros = " 0".repeat(12);
         let passed = format!("36 0 read 20 106{zeros}");
-        let sound = "36 0 read 0 106 1 9 3 0 0 58 0 58 48 106 0".to_string();
+        let sound = "36 0 read 0 106 1 9 3 0 0 58 0 58 48 106 0 1".to_string();
         for (place, feed) in other_lengths().iter().enumerate() {
             let (kept, answer) = if place < 6 {
                 (0, &passed)
@@ -103,7 +103,7 @@ mod tests {
     #[test]
     fn a_stopped_feed_says_so_first() {
         let wrong = set(&Sample::plain(b"GET_STATUS", &[]).bytes(), 2, 0x80);
-        let zeros = " 0".repeat(11);
+        let zeros = " 0".repeat(12);
         let before = "opened\n0 0 refused 20\n0 0 refused 20\n";
         let stop = format!("58 0 read 2 0{zeros}\n");
         let after = "0 0 refused 21\n".repeat(12);

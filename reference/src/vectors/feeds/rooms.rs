@@ -114,7 +114,7 @@ mod tests {
 
     #[test]
     fn what_is_announced_is_waited_for() {
-        let zeros = "0 ".repeat(11);
+        let zeros = "0 ".repeat(12);
         let stops = format!("18 0 read 3 0 {zeros}");
         let feeds = announced();
         let of_feed = |place: usize| lines(&feeds[place]);
@@ -136,10 +136,10 @@ mod tests {
 
     #[test]
     fn the_answer_comes_with_the_last_byte() {
-        let zeros = " 0".repeat(11);
+        let zeros = " 0".repeat(12);
         let answer = format!("1 0 read 20 138{zeros}");
-        let next = "58 0 read 0 58 1 10 3 0 0 58 0 58 0 58 0";
-        let sound = "1 0 read 0 138 1 6 3 0 0 58 0 58 80 138 0";
+        let next = "58 0 read 0 58 1 10 3 0 0 58 0 58 0 58 0 1";
+        let sound = "1 0 read 0 138 1 6 3 0 0 58 0 58 80 138 0 1";
         let expected = [
             "137 0 nothing".to_string(),
             "137 0 nothing\n0 0 nothing".to_string(),

@@ -184,6 +184,7 @@ fn orders() -> Vec<Vec<u8>> {
         &Sample::extended(Layout::New),
         [
             |fields| (fields.name_field[19], fields.data_size) = (1, u32::MAX),
+            |fields| (fields.name_field[0], fields.data_size) = (128, u32::MAX),
             |fields| (fields.body_size, fields.index_size) = (Some(1000), 17),
             |fields| (fields.version, fields.index_size) = (3, 17),
             |fields| (fields.version, fields.data_size) = (3, u32::MAX),
@@ -305,7 +306,7 @@ mod tests {
 
     #[test]
     fn the_first_fault_in_the_order_counts() {
-        let expected = [2, 1, 4, 4, 5, 5, 6, 6, 6, 7, 7, 7, 7, 7, 7, 7, 8];
+        let expected = [6, 2, 1, 4, 4, 5, 5, 6, 6, 6, 7, 7, 7, 7, 7, 7, 7, 8];
         assert_eq!(answers(Layout::New, &orders()), expected);
     }
 

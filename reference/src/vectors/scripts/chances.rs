@@ -7,11 +7,15 @@ use crate::message::body::Layout;
 use crate::panel::Call;
 use crate::random::Random;
 use crate::script::Fields;
+use crate::vectors::rests::{self, DEVICE_NAME, TYPE};
 use crate::vectors::samples::{mended, Sample};
-use crate::vectors::{bundles, images, metadata, trees};
+use crate::vectors::{bundles, images, metadata, streams, trees};
 
 const SEED: u64 = 11;
 const CHANCES: usize = 640;
+
+/// As many have messages whose texts are not followed by zeros alone.
+const MARKED: usize = 48;
 
 /// One more than sixteen tiles of two types need.
 const NAMES: [&[u8]; 9] = [
@@ -30,7 +34,10 @@ pub fn scripts() -> Vec<Script> {
     let mut random = Random::new(SEED);
     let others = other_messages();
     let scripts = (0..CHANCES).map(|_| by_chance(&mut random, &others));
-    scripts.collect()
+    let mut scripts: Vec<Script> = scripts.collect();
+    let marked = marked_messages(&mut random);
+    scripts.extend((0..MARKED).map(|_| by_chance(&mut random, &marked)));
+    scripts
 }
 
 /// One script, with these among the messages that no tile shows.
@@ -49,6 +56,22 @@ pub fn other_messages() -> Vec<Vec<u8>> {
     let sound = sound.iter().map(Sample::bytes);
     let refused = Layout::BOTH.map(refusals::refused_messages).concat();
     refused.into_iter().chain(sound).collect()
+}
+
+/// Messages for tiles of most scripts, with something after their texts, and one for 2 in each
+/// layout.
+pub fn marked_messages(random: &mut Random) -> Vec<Vec<u8>> {
+    let names = &NAMES[..3];
+    let types = [(TRANSFORM, 48), (POSITION, 12)];
+    let texts = names
+        .iter()
+        .flat_map(|name| types.map(|(of, length)| (of, name, length)));
+    let marked = texts.map(|(type_text, name, length)| {
+        let bytes = message(type_text, name, &vec![9; length]).bytes();
+        rests::by_chance(random, &bytes, &[TYPE, DEVICE_NAME])
+    });
+    let refused = Layout::BOTH.map(streams::without_text);
+    marked.chain(refused).collect()
 }
 
 /// Chooses the calls of one script. What it remembers makes good calls likely, and has no part in

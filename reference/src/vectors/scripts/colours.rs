@@ -264,7 +264,7 @@ mod tests {
 
     #[test]
     fn empty_until_one_counts() {
-        let line = "added 0, empty, accepted, empty, empty, refused 2, empty, accepted, green 0 7 \
+        let line = "added 0, empty, accepted, empty, empty, refused 1, empty, accepted, green 0 7 \
                     | green 0 7";
         assert_eq!(empty_until_a_message_counts().brief(), line);
     }

@@ -39,15 +39,17 @@ fn earlier_clocks() -> Script {
     after_start(&calls, 1199)
 }
 
-/// A message for each number of the reader from 1 to 11.
+/// A message for each number of the reader from 1 to 11 but 2, and among them one that is accepted
+/// and not clean, which is for no tile of a TRANSFORM.
 pub fn refused_messages(layout: Layout) -> Vec<Vec<u8>> {
     let short = vec![arm(8)[..105].to_vec()];
-    [short, streams::refused(layout)].concat()
+    [short, streams::of_each_number(layout)].concat()
 }
 
-/// Each of them after P10's message: it changes nothing, and the clock stays.
+/// Each of them and one for 2 after P10's message: it changes nothing, and the clock stays.
 fn numbers_of_the_reader(layout: Layout) -> Vec<Script> {
     let refused = refused_messages(layout).into_iter();
+    let refused = refused.chain([streams::without_text(layout)]);
     let scripts = refused.map(|bytes| {
         let calls = [
             send(1300, &bytes),
@@ -192,13 +194,14 @@ mod tests {
 
     #[test]
     fn the_readers_numbers() {
-        for (script, number) in scripts_of_the_reader().iter().zip((1..=11).cycle()) {
+        let numbers = [1, 13].into_iter().chain(3..=11).chain([2]);
+        for (script, number) in scripts_of_the_reader().iter().zip(numbers.cycle()) {
             let refusal = format!("refused {number}");
             let looks = format!("{refusal}, green 99 7, accepted, {refusal}, grey 99 7");
             let expected = format!("{START}, {looks} | refused 15");
             assert_eq!(script.brief(), expected);
         }
-        assert_eq!(scripts_of_the_reader().len(), 22);
+        assert_eq!(scripts_of_the_reader().len(), 24);
     }
 
     #[test]

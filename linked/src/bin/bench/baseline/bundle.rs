@@ -1,7 +1,8 @@
 //! BIND contents: their parts, and the check of their layout.
 
 use super::fields::{
-    all_zero, be16, be64, first, is_text, is_text_field, part, past_text, rest, text_len, text_of,
+    accepted, all_zero, be16, be64, first, is_text, part, past_text, read_field, refusal, rest,
+    text_len, text_of, Checked, TextField,
 };
 
 // ---- parts
@@ -14,7 +15,7 @@ pub fn headers(content: &[u8]) -> &[u8] {
     rest(content, 2)
 }
 
-fn after_headers(content: &[u8]) -> &[u8] {
+pub fn after_headers(content: &[u8]) -> &[u8] {
     rest(content, 2 + 20 * count(content))
 }
 
@@ -42,14 +43,17 @@ pub fn after_block(blocks: &[u8], n: usize) -> &[u8] {
 
 // ---- layout
 
-fn types_ok(mut headers: &[u8], n: usize) -> bool {
+fn read_types(mut headers: &[u8], n: usize) -> TextField {
+    let mut clean = true;
     for _ in 0..n {
-        if !is_text_field(first(headers, 12)) {
-            return false;
+        let field = read_field(first(headers, 12));
+        if !field.ok {
+            return field;
         }
+        clean &= field.clean;
         headers = rest(headers, 20);
     }
-    true
+    TextField { ok: true, clean }
 }
 
 fn name_ok(table: &[u8]) -> bool {
@@ -90,21 +94,19 @@ fn data_ok(mut headers: &[u8], mut blocks: &[u8], n: usize) -> bool {
     blocks.is_empty()
 }
 
-fn layout_ok(content: &[u8]) -> bool {
+pub fn check_layout(content: &[u8]) -> Checked {
     let n = count(content);
     let table_size = usize::from(be16(after_headers(content), 0));
     if content.len() < 4 + 20 * n + table_size {
-        return false;
+        return refusal(10);
     }
-    types_ok(headers(content), n)
+    let types = read_types(headers(content), n);
+    let ok = types.ok
         && table_ok(table_of(content), n)
-        && data_ok(headers(content), data_of(content), n)
-}
-
-pub fn layout_number(content: &[u8]) -> u8 {
-    if layout_ok(content) {
-        0
+        && data_ok(headers(content), data_of(content), n);
+    if ok {
+        accepted(types.clean)
     } else {
-        10
+        refusal(10)
     }
 }

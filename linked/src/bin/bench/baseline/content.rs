@@ -1,6 +1,6 @@
 //! Contents, judged by their type: one dispatch, and BINDs to their innermost children.
 
-use super::fields::{first, rest};
+use super::fields::{accepted, first, refusal, rest, Checked};
 use super::{bundle, image, pose};
 
 enum Kind {
@@ -21,40 +21,59 @@ fn kind_of(text: &[u8]) -> Kind {
     }
 }
 
-fn check_content(text: &[u8], content: &[u8], levels: u32) -> u8 {
-    match kind_of(text) {
-        Kind::Transform => pose::transform_number(content),
-        Kind::Position => pose::position_number(content),
-        Kind::Image => image::image_number(content),
-        Kind::Bind => check_bind(content, levels),
-        Kind::Other => 0,
+pub fn is_bind(text: &[u8]) -> bool {
+    matches!(kind_of(text), Kind::Bind)
+}
+
+/// A content that has no text.
+fn without_text(number: u8) -> Checked {
+    if number == 0 {
+        accepted(true)
+    } else {
+        refusal(number)
     }
 }
 
-fn check_bind(content: &[u8], levels: u32) -> u8 {
+fn check_at(text: &[u8], content: &[u8], levels: u32) -> Checked {
+    match kind_of(text) {
+        Kind::Transform => without_text(pose::transform_number(content)),
+        Kind::Position => without_text(pose::position_number(content)),
+        Kind::Image => without_text(image::image_number(content)),
+        Kind::Bind => check_bind(content, levels),
+        Kind::Other => accepted(true),
+    }
+}
+
+fn check_bind(content: &[u8], levels: u32) -> Checked {
     if levels == 0 {
-        return 11;
+        return refusal(11);
     }
-    let fault = bundle::layout_number(content);
-    if fault != 0 {
-        return fault;
+    let layout = bundle::check_layout(content);
+    if layout.number != 0 {
+        return layout;
     }
+    let mut clean = layout.clean;
     let mut headers = bundle::headers(content);
     let mut data = bundle::data_of(content);
     for _ in 0..bundle::count(content) {
         let size = bundle::size_of(headers);
-        let child = check_content(bundle::type_of(headers), first(data, size), levels - 1);
-        if child != 0 {
+        let child = check_at(bundle::type_of(headers), first(data, size), levels - 1);
+        if child.number != 0 {
             return child;
         }
+        clean &= child.clean;
         headers = rest(headers, 20);
         data = bundle::after_block(data, size);
     }
-    0
+    accepted(clean)
+}
+
+pub fn check_content(text: &[u8], content: &[u8]) -> Checked {
+    check_at(text, content, 4)
 }
 
 pub fn content_number(text: &[u8], content: &[u8]) -> u8 {
-    check_content(text, content, 4)
+    check_content(text, content).number
 }
 
 #[cfg(test)]

@@ -87,9 +87,37 @@ pub fn all_zero(s: &[u8]) -> bool {
     s.iter().all(|&b| b == 0)
 }
 
-pub fn is_text_field(f: &[u8]) -> bool {
+pub struct TextField {
+    pub ok: bool,
+    pub clean: bool,
+}
+
+pub fn read_field(f: &[u8]) -> TextField {
     let text = text_of(f);
-    is_text(text) && all_zero(rest(f, text.len() + 1))
+    TextField {
+        ok: is_text(text),
+        clean: all_zero(rest(f, text.len())),
+    }
+}
+
+// ---- the answer of a check
+
+#[derive(Clone, Copy)]
+pub struct Checked {
+    pub number: u8,
+    pub clean: bool,
+}
+
+/// A refusal has no mark.
+pub fn refusal(number: u8) -> Checked {
+    Checked {
+        number,
+        clean: false,
+    }
+}
+
+pub fn accepted(clean: bool) -> Checked {
+    Checked { number: 0, clean }
 }
 
 pub fn put_text12(t: &[u8], at: usize, out: &mut [u8]) {
@@ -113,11 +141,16 @@ mod tests {
 
     #[test]
     fn text_fields() {
-        assert!(is_text_field(b"Arm\0\0"));
-        assert!(is_text_field(b"\0\0"));
-        assert!(is_text_field(b"full"));
-        assert!(!is_text_field(b"Arm\0a"));
-        assert!(!is_text_field(b"\x80\0"));
+        let read = |f: &[u8]| {
+            let TextField { ok, clean } = read_field(f);
+            (ok, clean)
+        };
+        assert_eq!(read(b"Arm\0\0"), (true, true));
+        assert_eq!(read(b"\0\0"), (true, true));
+        assert_eq!(read(b"full"), (true, true));
+        assert_eq!(read(b"Arm\0a"), (true, false));
+        assert_eq!(read(b"\0\x80"), (true, false));
+        assert!(!read(b"\x80\0").0);
     }
 
     #[test]

@@ -1,8 +1,8 @@
 //! The header of a message: 58 bytes.
 
 use super::fields::{
-    be16, be64, is_text, is_text_field, part, put16, put64, put_text12, put_text20, text_len,
-    text_of,
+    accepted, be16, be64, is_text, part, put16, put64, put_text12, put_text20, read_field, refusal,
+    text_len, text_of, Checked,
 };
 
 pub struct HeaderRead {
@@ -13,6 +13,7 @@ pub struct HeaderRead {
     pub time_stamp: u64,
     pub body_size: usize,
     pub crc: u64,
+    pub clean: bool,
 }
 
 pub struct HeaderFields {
@@ -30,11 +31,13 @@ fn size_at(stream: &[u8]) -> usize {
     be64(stream, 42) as usize
 }
 
-fn texts_fault(stream: &[u8]) -> u8 {
-    if is_text_field(part(stream, 2, 12)) && is_text_field(part(stream, 14, 20)) {
-        0
+fn check_texts(stream: &[u8]) -> Checked {
+    let type_field = read_field(part(stream, 2, 12));
+    let name_field = read_field(part(stream, 14, 20));
+    if type_field.ok && name_field.ok {
+        accepted(type_field.clean && name_field.clean)
     } else {
-        2
+        refusal(2)
     }
 }
 
@@ -46,15 +49,19 @@ fn limit_fault(size: usize) -> u8 {
     }
 }
 
-fn header_fault(stream: &[u8]) -> u8 {
+fn check_header(stream: &[u8]) -> Checked {
     if stream.len() < 58 {
-        return 1;
+        return refusal(1);
     }
-    let fault = texts_fault(stream);
+    let texts = check_texts(stream);
+    if texts.number != 0 {
+        return texts;
+    }
+    let fault = limit_fault(size_at(stream));
     if fault != 0 {
-        return fault;
+        return refusal(fault);
     }
-    limit_fault(size_at(stream))
+    texts
 }
 
 fn refused(number: u8) -> HeaderRead {
@@ -66,10 +73,11 @@ fn refused(number: u8) -> HeaderRead {
         time_stamp: 0,
         body_size: 0,
         crc: 0,
+        clean: false,
     }
 }
 
-fn handed(stream: &[u8]) -> HeaderRead {
+fn handed(stream: &[u8], clean: bool) -> HeaderRead {
     HeaderRead {
         number: 0,
         version: be16(stream, 0),
@@ -78,15 +86,16 @@ fn handed(stream: &[u8]) -> HeaderRead {
         time_stamp: be64(stream, 34),
         body_size: size_at(stream),
         crc: be64(stream, 50),
+        clean,
     }
 }
 
 pub fn read_header(stream: &[u8]) -> HeaderRead {
-    let fault = header_fault(stream);
-    if fault != 0 {
-        return refused(fault);
+    let checked = check_header(stream);
+    if checked.number != 0 {
+        return refused(checked.number);
     }
-    handed(stream)
+    handed(stream, checked.clean)
 }
 
 pub fn names_number(type_text: &[u8], device_name: &[u8]) -> u8 {

@@ -1,8 +1,9 @@
 //! Whole messages: the reader of the front of a byte stream, and the writer.
 
-use super::content::content_number;
+use super::cleaning::put_clean;
+use super::content::check_content;
 use super::crc64::crc64;
-use super::fields::{be16, be32, part, put, put16, put32};
+use super::fields::{self, be16, be32, part, put, put16, put32, Checked};
 use super::header::{self, HeaderFields, HeaderRead};
 use super::metadata::{count, index_size, metadata_number};
 use reference::message::body::{Body, Layout};
@@ -23,6 +24,7 @@ pub struct Answer {
     pub content_len: usize,
     pub metadata_at: usize,
     pub metadata_len: usize,
+    pub clean: bool,
 }
 
 // ---- the body
@@ -131,37 +133,37 @@ fn version_number(version: u16) -> u8 {
     }
 }
 
-fn contents_number(type_text: &[u8], content: &[u8], metadata: &[u8]) -> u8 {
+fn check_contents(type_text: &[u8], content: &[u8], metadata: &[u8]) -> Checked {
     let fault = metadata_number(metadata);
     if fault != 0 {
-        return fault;
+        return fields::refusal(fault);
     }
-    content_number(type_text, content)
+    check_content(type_text, content)
 }
 
-fn body_checks(layout: Layout, version: u16, crc: u64, type_text: &[u8], body: &[u8]) -> u8 {
+fn check_body(layout: Layout, version: u16, crc: u64, type_text: &[u8], body: &[u8]) -> Checked {
     let fault = version_number(version);
     if fault != 0 {
-        return fault;
+        return fields::refusal(fault);
     }
     if crc64(body) != crc {
-        return 5;
+        return fields::refusal(5);
     }
     let fault = body_number(layout, version, body);
     if fault != 0 {
-        return fault;
+        return fields::refusal(fault);
     }
     let places = sections(layout, version, body);
     let metadata = part(body, places.metadata_at, places.metadata_len);
     let fault = index_number(layout, version, body, metadata);
     if fault != 0 {
-        return fault;
+        return fields::refusal(fault);
     }
     let content = part(body, places.content_at, places.content_len);
-    contents_number(type_text, content, metadata)
+    check_contents(type_text, content, metadata)
 }
 
-fn accept(layout: Layout, header: HeaderRead, body: &[u8]) -> Answer {
+fn accept(layout: Layout, header: HeaderRead, body: &[u8], clean: bool) -> Answer {
     let places = sections(layout, header.version, body);
     Answer {
         number: 0,
@@ -177,6 +179,7 @@ fn accept(layout: Layout, header: HeaderRead, body: &[u8]) -> Answer {
         content_len: places.content_len,
         metadata_at: 58 + places.metadata_at,
         metadata_len: places.metadata_len,
+        clean: header.clean && clean,
     }
 }
 
@@ -191,11 +194,11 @@ pub fn read(layout: Layout, stream: &[u8]) -> Answer {
     }
     let body = part(stream, 58, size);
     let type_text = header::type_text(stream);
-    let fault = body_checks(layout, header.version, header.crc, type_text, body);
-    if fault != 0 {
-        return refusal(fault, 58 + size);
+    let checked = check_body(layout, header.version, header.crc, type_text, body);
+    if checked.number != 0 {
+        return refusal(checked.number, 58 + size);
     }
-    accept(layout, header, body)
+    accept(layout, header, body, checked.clean)
 }
 
 impl Answer {
@@ -255,7 +258,7 @@ fn sections_checks(layout: Layout, version: u16, type_text: &[u8], body: &Body) 
     if !is_fit(layout, version, body) {
         return 6;
     }
-    contents_number(type_text, body.content, body.metadata)
+    check_contents(type_text, body.content, body.metadata).number
 }
 
 fn write_checks(layout: Layout, message: &Message) -> u8 {
@@ -281,26 +284,29 @@ fn put_front(layout: Layout, body: &Body, out: &mut [u8]) {
     put32(words[1], 8, out);
 }
 
-fn put_extended(layout: Layout, body: &Body, out: &mut [u8]) {
+fn put_extended(layout: Layout, type_text: &[u8], body: &Body, out: &mut [u8]) {
     let content_at = 12 + body.further.len();
     put16(content_at as u16, 0, out);
     put_front(layout, body, out);
     put(body.further, 12, out);
-    put(body.content, content_at, out);
+    put_clean(type_text, body.content, content_at, out);
     put(body.metadata, content_at + body.content.len(), out);
 }
 
-fn put_body(layout: Layout, version: u16, body: &Body, out: &mut [u8]) {
-    if version == 2 {
-        put_extended(layout, body, out);
+fn put_body(layout: Layout, message: &Message, out: &mut [u8]) {
+    let Message {
+        type_text, body, ..
+    } = message;
+    if message.version == 2 {
+        put_extended(layout, type_text, body, out);
     } else {
-        put(body.content, 0, out);
+        put_clean(type_text, body.content, 0, out);
     }
 }
 
 fn put_message(layout: Layout, message: &Message, size: usize, out: &mut [u8]) {
     let room = &mut out[58..58 + size];
-    put_body(layout, message.version, &message.body, room);
+    put_body(layout, message, room);
     let header = HeaderFields {
         version: message.version,
         time_stamp: message.time_stamp,
