@@ -1,19 +1,18 @@
 -- What is proved of the writer of a BIND.
-use Prim.Native.Nat.{ℕ, zero, suc, _-_, _^_, _≤_, _<_}
+use Prim.Native.Nat.{ℕ, _-_, _^_, _≤_, _<_}
 use mathlib.Core.Path.{_≡_, refl, sym, ap, ap₂, subst, _∙_}
-use mathlib.Core.Logic.{inl, inr}
 use mathlib.Core.Bool.{true}
 use mathlib.Core.List.{List, [], _∷_, _++_, map}
 use native.Mathlib.Omega.{arith}
 use lib.Dec.{leb}
-use lib.ListN.{length, take, drop, replicate, length-map, length-replicate}
+use lib.ListN.{length, take, drop, replicate, length-map}
 use lib.Seq.{take-at, drop-at}
 use borrow.Author.Tests.{leb-true, le-leb}
 use Rattle.fields.specs.Bytes.{Bytes}
 use Rattle.fields.specs.Lists.{all, Each, flat}
-use Rattle.fields.specs.Text.{isText, Text}
-use Rattle.fields.specs.Received.{Rest, Fills}
-use Rattle.fields.proofs.Laws.Received.{bytes-zeros}
+use Rattle.fields.specs.Text.{isText}
+use Rattle.fields.specs.Received.{Fills}
+use Rattle.fields.proofs.Laws.Received.{zero-fills}
 use Rattle.fields.specs.Checks.{orElse}
 use Rattle.fields.specs.declared.Checked.{Checked}
 use Rattle.fields.specs.Answer.{writtenNumber, writtenCount, roomFault}
@@ -51,14 +50,6 @@ use Rattle.bind_writer.proofs.Laws.Faults.{by-lists, past-lists, passed
 -- zeros stand after the type
 abbrev ZeroRest : Child → Type 0
 ZeroRest c = c .rest ≡ replicate (12 - length (c .typeText)) 0
-
-zero-rest : (n : ℕ) → Rest (replicate n 0)
-zero-rest zero = inl refl
-zero-rest (suc n) = inr (replicate n 0, refl)
-
-zero-fills : (w : ℕ) (t : List ℕ) → Text t → length t ≤ w → Fills w t (replicate (w - length t) 0)
-zero-fills w t h l =
-    record { text = h; rest = zero-rest (w - length t); bytes = bytes-zeros (w - length t); width = omega (arith, length-replicate {A = ℕ} (w - length t) 0) }
 
 -- the test of a child's texts, and the rules that it tests
 well-child : (c : Child) → textsOk c ≡ true → length (c .content) < 256 ^ 8 → ZeroRest c → WellChild c

@@ -12,7 +12,7 @@ use Rattle.fields.specs.Lists.{all}
 use Rattle.fields.specs.Text.{isText, Text}
 use Rattle.fields.proofs.Laws.Bytes.{bytes-nil}
 use Rattle.fields.proofs.Laws.Text.{is-text}
-use Rattle.fields.proofs.Laws.Received.{fieldBytes-zeros}
+use Rattle.fields.proofs.Laws.Received.{fieldBytes-zeros, zero-fills}
 use Rattle.crc64.specs.Crc.{crcOf}
 use Rattle.crc64.proofs.Laws.{crc-lt}
 use Rattle.header.specs.Header.{Header, encodeHeader}
@@ -27,7 +27,6 @@ use Rattle.message.specs.Check.{refused, readOf}
 use Rattle.message.specs.Demand2.{Begins}
 use Rattle.message.specs.Numbers.{Whole}
 use Rattle.message.specs.Examples.{ofVersion2, getStatusText, body12, Accepted70, Examples}
-use Rattle.message.proofs.Laws.Rests.{zero-fills}
 use Rattle.message.proofs.Laws.Messages.{demand-2}
 use Rattle.message.proofs.Laws.Numbers.{refusals}
 

@@ -1,6 +1,5 @@
 pub mod Below
 pub mod Layout
-pub mod Rests
 pub mod Body
 pub mod Stream
 pub mod Read

@@ -12,6 +12,7 @@ use Rattle.fields.specs.Text.{isText, textOf, pastText, allZero, textOk, textCl
 use Rattle.fields.specs.Received.{fieldBytes, Fills}
 use Rattle.fields.specs.Answer.{writtenOf, roomFault, outAfter}
 use Rattle.fields.proofs.Laws.Text.{is-text}
+use Rattle.fields.proofs.Laws.Received.{zero-fills}
 use Rattle.crc64.specs.Crc.{bitStep, run, bitAt, bitsOf, bits, crcOf}
 use Rattle.header.specs.Header.{encodeHeader}
 use Rattle.header.specs.Check.{headerOf, shortFault, textsFault, limitFault, headerFault, namesFault}
@@ -34,7 +35,6 @@ use Rattle.message.specs.Check.{extendedOk, bodyFault, sizesFault, place
 use Rattle.message.specs.Writer.{fits, fitFault, sectionsChecks, writeChecks, writeFault, messageWritten, messageOut}
 use Rattle.message.specs.Samples.{armText}
 use Rattle.message.specs.ReceivedSamples.{trackerMessage, bundleMessage, ReceivedSamples}
-use Rattle.message.proofs.Laws.Rests.{zero-fills}
 use Rattle.message.proofs.Laws.Below.{each-below, bytes-below}
 
 sevens : WellTransform (replicate 12 0x07070707)

@@ -31,9 +31,9 @@ use Rattle.message.specs.Body.{encodeBody, MetadataFits}
 use Rattle.message.specs.Message.{encodeWith, WellFormed}
 use Rattle.message.specs.Check.{extendedOk, bodyFault, sizesFault, placesOf, wholeFault, versionFault, crcFault, sectionsFault, foundFault, bodyChecks, bodyClean, frontFault, numberOf, stepOf, readOf, refused}
 use Rattle.message.specs.Writer.{fits, fitFault, sectionsChecks, writeChecks, writeFault, messageWritten, messageOut}
-use Rattle.message.proofs.Laws.Rests.{zero-fills}
 use Rattle.message.proofs.Laws.Below.{each-below, bytes-below}
 use Rattle.fields.proofs.Laws.Text.{is-text}
+use Rattle.fields.proofs.Laws.Received.{zero-fills}
 use Rattle.message.specs.Samples.{armText, armMessage, armWords, statusText, probeText, probeMessage, pointText, pointWords, pointMessage, ProbeSample, PointSample, otherThan, probeBytes, pointBytes, Samples}
 
 opaque : Opaque statusText

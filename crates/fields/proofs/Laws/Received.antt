@@ -88,6 +88,18 @@ pub bytes-zeros : (n : ℕ) → Bytes (replicate n 0)
 bytes-zeros zero = bytes-nil
 bytes-zeros (suc n) = bytes-cons 0 (replicate n 0) (omega arith) (bytes-zeros n)
 
+-- zeros behind a text, as a writer puts them
+zero-rest : (n : ℕ) → Rest (replicate n 0)
+zero-rest zero = inl refl
+zero-rest (suc n) = inr (replicate n 0, refl)
+
+pub zero-fills : (w : ℕ) (t : List ℕ) → Text t → length t ≤ w → Fills w t (replicate (w - length t) 0)
+zero-fills w t h l =
+    record { text = h; rest = zero-rest (w - length t); bytes = bytes-zeros (w - length t); width = omega (arith, length-replicate {A = ℕ} (w - length t) 0) }
+
+pub fills-zeros : (w : ℕ) (t r : List ℕ) → Fills w t r → replicate {A = ℕ} (w - length t) 0 ≡ zeroed r
+fills-zeros w t r f = let e : w - length t ≡ length r = omega (arith, f .width) in ap (λ (n : ℕ). replicate n 0) e
+
 -- ---- what the field reader says
 
 pub read-refused : (f : List ℕ) → textOk f ≡ false → fieldRead f ≡ record { ok = false; clean = false }

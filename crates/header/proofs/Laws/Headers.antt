@@ -4,17 +4,17 @@ use mathlib.Core.Path.{_≡_, sym, ap, subst, _∙_}
 use mathlib.Core.Bool.{true, _&&_}
 use mathlib.Core.List.{List, [], _++_, append-nil}
 use native.Mathlib.Omega.{arith}
-use lib.ListN.{length, take, drop, replicate, take-append-drop}
+use lib.ListN.{length, take, drop, take-append-drop}
 use Rattle.fields.specs.Bytes.{Bytes, part}
 use Rattle.fields.specs.Numbers.{beAt}
 use Rattle.fields.specs.Checks.{orElse}
 use Rattle.fields.specs.Text.{Text, textOf, allZero, textOk}
-use Rattle.fields.specs.Received.{restOf, Rest, zeroed, Fills}
+use Rattle.fields.specs.Received.{restOf, Rest, zeroed}
 use Rattle.fields.specs.Answer.{writtenNumber, roomFault}
 use Rattle.fields.proofs.Laws.Answer.{written-number, room-enough}
 use Rattle.fields.proofs.Laws.Checks.{and-split, and-join}
 use Rattle.fields.proofs.Laws.Text.{text-ok}
-use Rattle.fields.proofs.Laws.Received.{rest-rest, field-parts, ok-is, zeros-to, zeros-from, zeroed-fills, zeroed-zeroed}
+use Rattle.fields.proofs.Laws.Received.{rest-rest, field-parts, ok-is, zeros-to, zeros-from, zeroed-fills, zeroed-zeroed, fills-zeros}
 use Rattle.header.specs.declared.HeaderRead.{HeaderRead}
 use Rattle.header.specs.Header.{Header, WellTexts, HeaderFits, WellHeader, encodeHeader, limit, cleanedHeader, CleanHeader}
 use Rattle.header.specs.Check.{headerOf, textsFault, limitFault, headerFault, handed, refused, headerRead, namesFault, writeFault, headerWritten, headerOut}
@@ -124,18 +124,14 @@ meant h w = (
   (zeroed-zeroed (h .typeRest), zeroed-zeroed (h .nameRest)),
 )
 
--- a rest that fills its field is as long as the zeros that the writer puts
-filled : (w : ℕ) (t r : List ℕ) → Fills w t r → replicate {A = ℕ} (w - length t) 0 ≡ zeroed r
-filled w t r f = let e : w - length t ≡ length r = omega (arith, f .width) in ap (λ (n : ℕ). replicate n 0) e
-
 -- what is handed out and given back is the header that was read, with its rests zeroed
 given-back : (s : List ℕ) → Bytes s → headerFault s ≡ 0 → givenBack s ≡ cleanedHeader (headerOf s)
 given-back s b h =
     let e : headerRead s ≡ handed (headerOf s) = header-read-passed s h in
     let f = header-fits s b h .fits in
     let g = headerOf s in
-    let t = filled 12 (g .typeText) (g .typeRest) (f .type-fills) in
-    let n = filled 20 (g .deviceName) (g .nameRest) (f .name-fills) in
+    let t = fills-zeros 12 (g .typeText) (g .typeRest) (f .type-fills) in
+    let n = fills-zeros 20 (g .deviceName) (g .nameRest) (f .name-fills) in
     λ i.
     record {
       version = e i .version;

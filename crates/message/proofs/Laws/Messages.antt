@@ -14,7 +14,7 @@ use Rattle.fields.specs.Text.{allZero}
 use Rattle.fields.specs.Received.{zeroed, Fills}
 use Rattle.fields.proofs.Laws.Bytes.{bytes-part, length-part}
 use Rattle.fields.proofs.Laws.Checks.{else-zero, and-split, and-join}
-use Rattle.fields.proofs.Laws.Received.{zeros-to, zeros-from, zeroed-fills, zeroed-zeroed}
+use Rattle.fields.proofs.Laws.Received.{zeros-to, zeros-from, zeroed-fills, zeroed-zeroed, fills-zeros}
 use Rattle.fields.proofs.Laws.Answer.{written-wrote, out-wrote, room-enough}
 use Rattle.crc64.specs.Crc.{crcOf}
 use Rattle.crc64.proofs.Laws.{crc-lt}
@@ -42,7 +42,6 @@ use Rattle.message.specs.Demand2.{Begins, givenBack, Demand2}
 use Rattle.header.proofs.Laws.Layout.{header-fits, fits-texts}
 use Rattle.header.proofs.Laws.Faults.{names-pass, limit-pass}
 use Rattle.metadata.proofs.Laws.Metadatas.{metadatas}
-use Rattle.message.proofs.Laws.Rests.{fills-zeros}
 use Rattle.message.proofs.Laws.Body.{body-accepted, well-same}
 use Rattle.message.proofs.Laws.Stream.{Accepted, number-accepted, read-accepted, read-refused, read-number, number-read, version-pass, partsAt, zeroTexts, handed-parts, cleanFor, read-mark, indexOf, sizes-agree, body-read-back, parts-back, whole-header}
 use Rattle.message.proofs.Laws.Writer.{length-body, well-fit, well-version, length-parts, parts-front, parts-number, checks-sections, parts-read}

@@ -17,6 +17,7 @@ use Rattle.fields.specs.Text.{allZero}
 use Rattle.fields.proofs.Laws.Text.{all-zeros}
 use Rattle.fields.proofs.Laws.Tests.{by-test, by-zero, is-false, true-false}
 use Rattle.fields.proofs.Laws.Answer.{written-wrote, written-number, out-wrote, out-refused}
+use Rattle.fields.proofs.Laws.Received.{zero-fills}
 use Rattle.crc64.specs.Crc.{crcOf}
 use Rattle.crc64.proofs.Laws.{crc-lt}
 use Rattle.header.specs.declared.HeaderRead.{HeaderRead}
@@ -47,7 +48,6 @@ use Rattle.header.proofs.Laws.Layout.{header-read, header-number}
 use Rattle.header.proofs.Laws.Faults.{names-pass, names-passed, names-broken, limit-pass, limit-passed, header-read-number}
 use Rattle.header.proofs.Laws.Headers.{headers}
 use Rattle.metadata.proofs.Laws.Metadatas.{metadatas}
-use Rattle.message.proofs.Laws.Rests.{zero-fills}
 use Rattle.message.proofs.Laws.Layout.{fit-metadata, unfit-size, fit-size}
 use Rattle.message.proofs.Laws.Body.{body-well, body-read, body-agreed, body-disagreed, sizes-seven, extended-refused, length-2}
 use Rattle.message.proofs.Laws.Stream.{is-some, whole-refused, version-pass, version-passed, version-refused, checks-version, checks-crc, checks-body, checks-rest, whole-header, whole-body, whole-front, read-refused, read-number, partsAt, zeroTexts, handed-parts, cleanFor, read-mark, number-read, indexOf}
