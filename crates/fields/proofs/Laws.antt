@@ -7,6 +7,7 @@ pub mod Text
 pub mod Received
 pub mod Layout
 pub mod Checks
+pub mod Formats
 pub mod Tests
 pub mod Stores
 pub mod Answer

@@ -7,5 +7,6 @@ pub mod Text
 pub mod Received
 pub mod Layout
 pub mod Checks
+pub mod Formats
 pub mod Answer
 pub mod Examples
