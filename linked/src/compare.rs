@@ -135,7 +135,7 @@ fn compare_stream(layout: Layout, stream: &[u8]) -> Result<Vec<Label>, Differenc
 
 fn compare_content(type_text: &[u8], content: &[u8]) -> Result<Vec<Label>, Difference> {
     let answer = number(&parse(type_text, content));
-    let proved = crate::content_number(type_text, content);
+    let proved = crate::content_fault(type_text, content);
     same("the content's number", proved, answer)?;
     Ok(vec![Label::Number(answer)])
 }

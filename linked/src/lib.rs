@@ -18,7 +18,7 @@ mod archive {
     // other the new one.
     unsafe extern "C" {
         pub fn kudireppa_crc64(bytes: *const u8, len: usize) -> u64;
-        pub fn kudireppa_content_number(
+        pub fn kudireppa_content_fault(
             type_text: *const u8,
             type_len: usize,
             content: *const u8,
@@ -86,10 +86,10 @@ pub fn crc64(bytes: &[u8]) -> u64 {
     unsafe { archive::kudireppa_crc64(bytes.as_ptr(), bytes.len()) }
 }
 
-pub fn content_number(type_text: &[u8], content: &[u8]) -> u8 {
+pub fn content_fault(type_text: &[u8], content: &[u8]) -> u8 {
     // SAFETY: two slices, read.
     unsafe {
-        archive::kudireppa_content_number(
+        archive::kudireppa_content_fault(
             type_text.as_ptr(),
             type_text.len(),
             content.as_ptr(),

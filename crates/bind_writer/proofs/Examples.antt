@@ -6,7 +6,7 @@ use mathlib.Core.List.{List, [], _∷_}
 use native.Mathlib.Omega.{arith}
 use lib.ListN.{getD, replicate}
 use Rattle.fields.specs.Bytes.{Bytes, same, sized}
-use Rattle.fields.specs.Lists.{Each, all, flat}
+use Rattle.fields.specs.Lists.{Each, allOf, flat}
 use Rattle.fields.specs.Numbers.{beVal, beBytes}
 use Rattle.fields.specs.Text.{isText, textOf, pastText, allZero, textOk, textClean, fieldOk, textBytes}
 use Rattle.fields.specs.Received.{fieldBytes}
@@ -16,15 +16,15 @@ use Rattle.fields.specs.Answer.{checked, writtenOf, roomFault, outAfter}
 use Rattle.fields.proofs.Laws.Bytes.{bytes-cons}
 use Rattle.fields.proofs.Laws.Checks.{zero-else}
 use Rattle.fields.proofs.Laws.Received.{bytes-zeros}
-use Rattle.bundle.specs.Children.{padded, childHeader, childName, childData, nameTable, encodeChildren}
-use Rattle.bundle.specs.Layout.{typesOk, nameOk, namesOk, tableOk, padOk, blockOk, dataOk, layoutOk, layoutFault}
+use Rattle.bind_layout.specs.Children.{padded, childHeader, childName, childData, nameTable, encodeChildren}
+use Rattle.bind_layout.specs.BindLayout.{typesOk, nameOk, namesOk, tableOk, padOk, blockOk, dataOk, layoutOk, layoutFault}
 use Rattle.content.specs.Kinds.{kindOf, bindText}
-use Rattle.content.specs.Check.{childrenFault, bindFault, contentFault, contentChecked, nestedLevels}
+use Rattle.content.specs.ContentCheck.{childrenFault, bindFault, contentFault, contentChecked, nestedLevels}
 use Rattle.content.specs.Examples.{within, inner, outer, innerRest}
 use Rattle.content.proofs.Examples.{examples as content-examples}
-use Rattle.cleaning.specs.Clean.{cleanHeaders, cleanFront, cleanDatas, cleanBind, cleanBytes}
-use Rattle.bind_writer.specs.Lists.{children}
-use Rattle.bind_writer.specs.Writer.{listsOk, listsFault, writeFault, bindWritten, bindOut}
+use Rattle.cleaning.specs.CleanBytes.{cleanHeaders, cleanFront, cleanDatas, cleanBind, cleanBytes}
+use Rattle.bind_writer.specs.ChildLists.{children}
+use Rattle.bind_writer.specs.BindWriter.{listsOk, listsFault, writeFault, bindWritten, bindOut}
 use Rattle.bind_writer.specs.Examples.{Examples}
 
 below-256 : (s : List ℕ) → Each (λ b. b < 256) s → Bytes s
@@ -42,14 +42,14 @@ third : (l m : List Checked) → l ≡ m → getD l 2 none .number ≡ getD m 2 
 third l m e = ap (λ (k : List Checked). getD k 2 none .number) e
 
 accepted : Accepted (inner innerRest) × Accepted (within (within (inner innerRest)))
-unfolding same sized all flat beVal beBytes isText textOf pastText allZero textOk textClean textBytes fieldBytes checked padded childHeader childName childData nameTable encodeChildren typesOk nameOk namesOk tableOk padOk blockOk dataOk layoutOk layoutFault kindOf childrenFault bindFault contentFault contentChecked
+unfolding same sized allOf flat beVal beBytes isText textOf pastText allZero textOk textClean textBytes fieldBytes checked padded childHeader childName childData nameTable encodeChildren typesOk nameOk namesOk tableOk padOk blockOk dataOk layoutOk layoutFault kindOf childrenFault bindFault contentFault contentChecked
 accepted = (
   zero-else (contentFault nestedLevels bindText (inner innerRest)) 0 (third _ _ (content-examples .marks)) .0,
   zero-else (contentFault nestedLevels bindText (within (within (inner innerRest)))) 0 (third _ _ (content-examples .deep-marks)) .0,
 )
 
 pub examples : Examples
-unfolding same sized all flat beVal beBytes isText textOf pastText allZero textOk textClean fieldOk textBytes fieldBytes checked writtenOf roomFault outAfter padded childHeader childName childData nameTable encodeChildren typesOk nameOk namesOk tableOk padOk blockOk dataOk layoutOk layoutFault kindOf childrenFault bindFault contentFault contentChecked cleanHeaders cleanFront cleanDatas cleanBind cleanBytes children listsOk listsFault writeFault bindWritten bindOut
+unfolding same sized allOf flat beVal beBytes isText textOf pastText allZero textOk textClean fieldOk textBytes fieldBytes checked writtenOf roomFault outAfter padded childHeader childName childData nameTable encodeChildren typesOk nameOk namesOk tableOk padOk blockOk dataOk layoutOk layoutFault kindOf childrenFault bindFault contentFault contentChecked cleanHeaders cleanFront cleanDatas cleanBind cleanBytes children listsOk listsFault writeFault bindWritten bindOut
 examples =
     record {
       sizes-fit = (omega arith, (omega arith, tt));

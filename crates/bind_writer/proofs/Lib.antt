@@ -1,3 +1,3 @@
 pub mod Laws
-pub mod BindWriters
+pub mod BindWriterTheorems
 pub mod Examples

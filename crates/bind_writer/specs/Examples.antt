@@ -7,11 +7,11 @@ use Rattle.fields.specs.Bytes.{Bytes}
 use Rattle.fields.specs.Lists.{Each}
 use Rattle.fields.specs.declared.Written.{Written}
 use Rattle.fields.specs.declared.Written.the-variants.{Wrote, Refused}
-use Rattle.bundle.specs.Examples.{twoChildren}
+use Rattle.bind_layout.specs.Examples.{twoChildren}
 use Rattle.content.specs.Kinds.{bindText}
 use Rattle.content.specs.Examples.{spelled, noChildren, within, inner, outer, innerRest}
-use Rattle.bind_writer.specs.Lists.{SizesFit}
-use Rattle.bind_writer.specs.Writer.{bindWritten, bindOut}
+use Rattle.bind_writer.specs.ChildLists.{SizesFit}
+use Rattle.bind_writer.specs.BindWriter.{bindWritten, bindOut}
 
 -- the children of `twoChildren`
 abbrev pub types : List (List ℕ)

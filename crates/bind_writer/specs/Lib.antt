@@ -1,6 +1,6 @@
 -- Children as three lists; the writer; the statements about it.
 
-pub mod Lists
-pub mod Writer
-pub mod BindWriters
+pub mod ChildLists
+pub mod BindWriter
+pub mod BindWriterTheorems
 pub mod Examples

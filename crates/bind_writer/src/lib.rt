@@ -7,14 +7,14 @@ ghost use Prim.Native.Nat.{_+_, _*_, _%_, _≤_, min};
 ghost use lib.Dec.{leb};
 ghost use lib.ListN.{length, replicate};
 ghost use lib.Seq.{sets};
-ghost use Rattle.fields.specs.Lists.{all, flat};
+ghost use Rattle.fields.specs.Lists.{allOf, flat};
 ghost use Rattle.fields.specs.Numbers.{beBytes};
 ghost use Rattle.fields.specs.Text.{textBytes};
-ghost use Rattle.bundle.specs.Children.{padded, encodeChildren, ended};
-ghost use Rattle.content.specs.Check.{contentFault, nestedLevels};
-ghost use Rattle.content.specs.Contents.{firstFault};
-ghost use Rattle.bind_writer.specs.Lists.{children, WithNames, WithContents};
-ghost use Rattle.bind_writer.specs.Writer.{typeOk, textsOk, listsOk, childFault, spaceFault, writeFault, cleanContent, written, plainHeader, cleanData, bindWritten, bindOut};
+ghost use Rattle.bind_layout.specs.Children.{padded, encodeChildren, ended};
+ghost use Rattle.content.specs.ContentCheck.{contentFault, nestedLevels};
+ghost use Rattle.content.specs.ContentTheorems.{firstFault};
+ghost use Rattle.bind_writer.specs.ChildLists.{children, WithNames, WithContents};
+ghost use Rattle.bind_writer.specs.BindWriter.{typeOk, textsOk, listsOk, childFault, spaceFault, writeFault, cleanContent, written, plainHeader, cleanData, bindWritten, bindOut};
 
 // Is it a text that a CTYPE of 12 bytes holds?
 fn type_ok(type_text: &[u8]) -> bool
@@ -29,7 +29,7 @@ fn type_ok(type_text: &[u8]) -> bool
 // Are the types and the names of the children such texts? A name has no limit of its own.
 fn texts_ok(types: &[&[u8]], names: &[&[u8]]) -> bool
     requires { ⌜ length (now names) ≡ length (now types) ⌝ }
-    ensures { λ r. ⌜ WithNames (map now (now (types .entry))) (map now (now (names .entry))) (λ cs. r ≡ all textsOk cs) ⌝ }
+    ensures { λ r. ⌜ WithNames (map now (now (types .entry))) (map now (now (names .entry))) (λ cs. r ≡ allOf textsOk cs) ⌝ }
 {
     let mut i = 0;
     while i < types.len() {
@@ -88,10 +88,10 @@ fn lists_ok(types: &[&[u8]], names: &[&[u8]], contents: &[&[u8]]) -> bool
 }
 
 // A child of the BIND that is written: a BIND there is level 2.
-fn child_number(type_text: &[u8], content: &[u8]) -> u8
+fn child_fault(type_text: &[u8], content: &[u8]) -> u8
     ensures { λ r. ⌜ r ≡ contentFault nestedLevels (now («type_text» .entry)) (now (content .entry)) ⌝ }
 {
-    content::nested_number(type_text, content)
+    content::nested_fault(type_text, content)
 }
 
 // The first fault among the children's contents, or 0.
@@ -103,7 +103,7 @@ fn first_fault(types: &[&[u8]], contents: &[&[u8]]) -> u8
     while i < types.len() {
         let type_text = types[i];
         let content = contents[i];
-        let fault = child_number(type_text, content);
+        let fault = child_fault(type_text, content);
         if fault != 0 {
             return fault;
         }
@@ -134,7 +134,7 @@ fn data_fits(contents: &[&[u8]], room: usize) -> bool
 }
 
 // Check 20. What stands before the data is short, as the lists passed their check.
-fn space_number(types: &[&[u8]], names: &[&[u8]], contents: &[&[u8]], room: usize) -> u8
+fn space_fault(types: &[&[u8]], names: &[&[u8]], contents: &[&[u8]], room: usize) -> u8
     requires { ⌜ listsOk (map now (now types)) (map now (now names)) (map now (now contents)) ≡ true ⌝ }
     ensures { λ r. ⌜ r ≡ spaceFault (map now (now (types .entry))) (map now (now (names .entry))) (map now (now (contents .entry))) room ⌝ }
 {
@@ -160,7 +160,7 @@ fn write_fault(types: &[&[u8]], names: &[&[u8]], contents: &[&[u8]], room: usize
     if fault != 0 {
         return fault;
     }
-    space_number(types, names, contents, room)
+    space_fault(types, names, contents, room)
 }
 
 // Writes one 0 where n is odd.

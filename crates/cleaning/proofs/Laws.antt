@@ -1,3 +1,3 @@
 pub mod Lengths
-pub mod Walk
-pub mod Cleanings
+pub mod CleaningWalk
+pub mod CleaningTheorems

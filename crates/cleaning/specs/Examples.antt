@@ -1,11 +1,11 @@
--- Contents byte by byte, cleaned: what is zeroed, and what is not.
+-- ContentTheorems byte by byte, cleaned: what is zeroed, and what is not.
 use Prim.Native.Nat.{ℕ}
 use mathlib.Core.Path.{_≡_}
 use mathlib.Core.List.{List, [], _∷_, _++_}
 use lib.ListN.{replicate}
 use Rattle.content.specs.Kinds.{bindText}
 use Rattle.content.specs.Examples.{spelled, noChildren, within, inner, outer, innerRest, outerRest}
-use Rattle.cleaning.specs.Clean.{cleanBytes, cleanPut}
+use Rattle.cleaning.specs.CleanBytes.{cleanBytes, cleanPut}
 
 -- so many levels, of a BIND
 abbrev pub cleanAt : ℕ → List ℕ → List ℕ

@@ -1,5 +1,5 @@
 -- The cleaned bytes of a content; the statement about them; examples.
 
-pub mod Clean
-pub mod Cleanings
+pub mod CleanBytes
+pub mod CleaningTheorems
 pub mod Examples

@@ -1,11 +1,11 @@
-// Contents written clean (rule 13.6): the rest of each CTYPE zeroed, at every level of a BIND. All else is written as it is given. The parts of
+// ContentTheorems written clean (rule 13.6): the rest of each CTYPE zeroed, at every level of a BIND. All else is written as it is given. The parts of
 // a BIND are written in order, straight into the lent buffer, so the time is linear in the content.
 ghost use Prim.Native.Nat.{_+_, _*_, _≤_};
 ghost use mathlib.Core.Path.{_≡_};
 ghost use lib.ListN.{length};
 ghost use lib.Seq.{sets};
-ghost use Rattle.bundle.specs.Layout.{layoutFault};
-ghost use Rattle.cleaning.specs.Clean.{cleanHeaders, cleanFront, cleanBind, cleanBytes, boundedLevels, cleanPut};
+ghost use Rattle.bind_layout.specs.BindLayout.{layoutFault};
+ghost use Rattle.cleaning.specs.CleanBytes.{cleanHeaders, cleanFront, cleanBind, cleanBytes, boundedLevels, cleanPut};
 
 // Writes the headers of n children: the text of each CTYPE, zeros, and CSIZE.
 fn put_headers(headers: &[u8], n: usize, at: usize, out: &mut [u8])
@@ -16,7 +16,7 @@ fn put_headers(headers: &[u8], n: usize, at: usize, out: &mut [u8])
     let mut to = at;
     let mut left = n;
     while 0 < left {
-        fields::text::put_text12(bundle::parts::type_of(h), to, out);
+        fields::text::put_text12(bind_layout::bind_parts::type_of(h), to, out);
         fields::store::put(fields::slice::part(h, 12, 8), to + 12, out);
         let next = fields::slice::rest(h, 20);
         h = next;
@@ -30,11 +30,11 @@ fn put_front(content: &[u8], at: usize, out: &mut [u8])
     requires { ⌜ (layoutFault (now content) ≡ 0) × (at + length (now content) ≤ length (now out)) ⌝ }
     ensures { λ _. ⌜ now (out .exit) ≡ sets (now (out .entry)) at (cleanFront (now (content .entry))) ⌝ }
 {
-    let n = bundle::parts::count(content);
-    let after = bundle::parts::after_headers(content);
+    let n = bind_layout::bind_parts::child_count(content);
+    let after = bind_layout::bind_parts::after_headers(content);
     let table_size = fields::number::be16(after, 0) as usize;
     fields::store::put(fields::slice::first(content, 2), at, out);
-    put_headers(bundle::parts::headers(content), n, at + 2, out);
+    put_headers(bind_layout::bind_parts::headers(content), n, at + 2, out);
     fields::store::put(
         fields::slice::first(after, 2 + table_size),
         at + 2 + 20 * n,
@@ -64,20 +64,26 @@ fn put_bind(content: &[u8], levels: u32, at: usize, out: &mut [u8])
         fields::store::put(content, at, out);
         return;
     }
-    let layout = bundle::layout::check_layout(content);
+    let layout = bind_layout::layout_check::check_layout(content);
     if layout.number != 0 {
         fields::store::put(content, at, out);
         return;
     }
     put_front(content, at, out);
-    let mut h = bundle::parts::headers(content);
-    let mut d = bundle::parts::data_of(content);
-    let mut left = bundle::parts::count(content);
+    let mut h = bind_layout::bind_parts::headers(content);
+    let mut d = bind_layout::bind_parts::data_of(content);
+    let mut left = bind_layout::bind_parts::child_count(content);
     while 0 < left {
-        let size = bundle::parts::size_of(h);
+        let size = bind_layout::bind_parts::size_of(h);
         let child = fields::slice::first(d, size);
         let to = at + (content.len() - d.len());
-        put_content(bundle::parts::type_of(h), child, levels - 1, to, out);
+        put_content(
+            bind_layout::bind_parts::type_of(h),
+            child,
+            levels - 1,
+            to,
+            out,
+        );
         fields::store::put(
             fields::slice::part(d, size, size % 2),
             to + child.len(),
@@ -85,7 +91,7 @@ fn put_bind(content: &[u8], levels: u32, at: usize, out: &mut [u8])
         );
         let next_headers = fields::slice::rest(h, 20);
         h = next_headers;
-        let next_data = bundle::parts::after_block(d, size);
+        let next_data = bind_layout::bind_parts::after_block(d, size);
         d = next_data;
         left -= 1;
     }

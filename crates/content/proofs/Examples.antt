@@ -1,7 +1,7 @@
 -- The examples, by computation.
 use mathlib.Core.Path.{refl}
 use Rattle.fields.specs.Bytes.{same, sized}
-use Rattle.fields.specs.Lists.{all, flat}
+use Rattle.fields.specs.Lists.{allOf, flat}
 use Rattle.fields.specs.Numbers.{beVal, beBytes}
 use Rattle.fields.specs.Text.{isText, textOf, pastText, allZero, textOk, textClean, fieldOk, textBytes}
 use Rattle.fields.specs.Received.{fieldBytes}
@@ -9,14 +9,14 @@ use Rattle.fields.specs.Answer.{checked}
 use Rattle.pose.specs.Transform.{transformFault}
 use Rattle.pose.specs.Position.{wordsIn, positionFault}
 use Rattle.image.specs.Image.{scalarSize, kindOk, headerOk, ruleFault, headerOf, imageFault}
-use Rattle.bundle.specs.Children.{padded, childHeader, childName, childData, nameTable, encodeChildren}
-use Rattle.bundle.specs.Layout.{typesOk, typesClean, nameOk, namesOk, tableOk, padOk, blockOk, dataOk, layoutOk, layoutFault}
+use Rattle.bind_layout.specs.Children.{padded, childHeader, childName, childData, nameTable, encodeChildren}
+use Rattle.bind_layout.specs.BindLayout.{typesOk, typesClean, nameOk, namesOk, tableOk, padOk, blockOk, dataOk, layoutOk, layoutFault}
 use Rattle.content.specs.Kinds.{kindOf}
-use Rattle.content.specs.Check.{childrenFault, bindFault, contentFault, childrenClean, bindClean, contentClean, contentChecked}
+use Rattle.content.specs.ContentCheck.{childrenFault, bindFault, contentFault, childrenClean, bindClean, contentClean, contentChecked}
 use Rattle.content.specs.Examples.{Examples}
 
 pub examples : Examples
-unfolding same sized all flat beVal beBytes isText textOf pastText allZero textOk textClean fieldOk textBytes fieldBytes checked transformFault wordsIn positionFault scalarSize kindOk headerOk ruleFault headerOf imageFault padded childHeader childName childData nameTable encodeChildren typesOk typesClean nameOk namesOk tableOk padOk blockOk dataOk layoutOk layoutFault kindOf childrenFault bindFault contentFault childrenClean bindClean contentClean contentChecked
+unfolding same sized allOf flat beVal beBytes isText textOf pastText allZero textOk textClean fieldOk textBytes fieldBytes checked transformFault wordsIn positionFault scalarSize kindOk headerOk ruleFault headerOf imageFault padded childHeader childName childData nameTable encodeChildren typesOk typesClean nameOk namesOk tableOk padOk blockOk dataOk layoutOk layoutFault kindOf childrenFault bindFault contentFault childrenClean bindClean contentClean contentChecked
 examples =
     record {
       transform-text = refl;

@@ -1,5 +1,5 @@
 pub mod Kinds
-pub mod Walk
+pub mod ChildrenWalk
 pub mod Faults
 pub mod Contents
 pub mod Cleaned

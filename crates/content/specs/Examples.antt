@@ -8,11 +8,11 @@ use mathlib.Core.Bool.{true, false}
 use mathlib.Core.List.{List, [], _∷_, _++_, map}
 use lib.ListN.{length, replicate}
 use Rattle.fields.specs.declared.Checked.{Checked}
-use Rattle.bundle.specs.Children.{Child, encodeChildren}
+use Rattle.bind_layout.specs.Children.{Child, encodeChildren}
 use Rattle.content.specs.declared.Kind.{Kind}
 use Rattle.content.specs.declared.Kind.the-variants.{Transform, Position, Image, Bind, Other}
 use Rattle.content.specs.Kinds.{transformText, positionText, imageText, bindText, kindOf}
-use Rattle.content.specs.Check.{bindFault, contentFault, contentChecked, deepest}
+use Rattle.content.specs.ContentCheck.{bindFault, contentFault, contentChecked, deepest}
 
 -- the codes of a text in quotes
 abbrev pub spelled : String → List ℕ

@@ -2,6 +2,6 @@
 
 pub mod Kinds
 pub mod Tree
-pub mod Check
-pub mod Contents
+pub mod ContentCheck
+pub mod ContentTheorems
 pub mod Examples

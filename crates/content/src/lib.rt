@@ -1,9 +1,9 @@
-// Contents, judged by their type (rule 4.1): one dispatch, and BINDs to their innermost children (rule 4.14).
+// ContentTheorems, judged by their type (rule 4.1): one dispatch, and BINDs to their innermost children (rule 4.14).
 use fields::Checked;
 use fields::marked;
 ghost use mathlib.Core.Path.{_≡_};
 ghost use Rattle.content.specs.Kinds.{kindOf};
-ghost use Rattle.content.specs.Check.{contentFault, bindFault, contentChecked, bindChecked, deepest, nestedLevels};
+ghost use Rattle.content.specs.ContentCheck.{contentFault, bindFault, contentChecked, bindChecked, deepest, nestedLevels};
 
 // The types that have a rule; the content of any other type is opaque (rule 4.1).
 enum Kind {
@@ -40,9 +40,9 @@ fn check_content(type_text: &[u8], content: &[u8], levels: u32) -> Checked
     ensures { λ r. ⌜ r ≡ contentChecked levels (now («type_text» .entry)) (now (content .entry)) ⌝ }
 {
     match kind_of(type_text) {
-        Kind::Transform => marked(pose::transform_number(content), true),
-        Kind::Position => marked(pose::position_number(content), true),
-        Kind::Image => marked(image::image_number(content), true),
+        Kind::Transform => marked(pose::transform_fault(content), true),
+        Kind::Position => marked(pose::position_fault(content), true),
+        Kind::Image => marked(image::image_fault(content), true),
         Kind::Bind => check_bind(content, levels),
         Kind::Other => marked(0, true),
     }
@@ -55,18 +55,18 @@ fn check_bind(content: &[u8], levels: u32) -> Checked
     if levels == 0 {
         return marked(11, false);
     }
-    let layout = bundle::layout::check_layout(content);
+    let layout = bind_layout::layout_check::check_layout(content);
     if layout.number != 0 {
         return layout;
     }
-    let mut h = bundle::parts::headers(content);
-    let mut d = bundle::parts::data_of(content);
-    let mut left = bundle::parts::count(content);
+    let mut h = bind_layout::bind_parts::headers(content);
+    let mut d = bind_layout::bind_parts::data_of(content);
+    let mut left = bind_layout::bind_parts::child_count(content);
     let mut clean = layout.clean;
     while 0 < left {
-        let size = bundle::parts::size_of(h);
+        let size = bind_layout::bind_parts::size_of(h);
         let child = check_content(
-            bundle::parts::type_of(h),
+            bind_layout::bind_parts::type_of(h),
             fields::slice::first(d, size),
             levels - 1,
         );
@@ -77,7 +77,7 @@ fn check_bind(content: &[u8], levels: u32) -> Checked
         clean = so_far;
         let next_headers = fields::slice::rest(h, 20);
         h = next_headers;
-        let next_data = bundle::parts::after_block(d, size);
+        let next_data = bind_layout::bind_parts::after_block(d, size);
         d = next_data;
         left -= 1;
     }
@@ -100,7 +100,7 @@ pub fn bind_check(content: &[u8]) -> Checked
 }
 
 // The number alone.
-pub fn content_number(type_text: &[u8], content: &[u8]) -> u8
+pub fn content_fault(type_text: &[u8], content: &[u8]) -> u8
     ensures { λ r. ⌜ r ≡ contentFault deepest (now («type_text» .entry)) (now (content .entry)) ⌝ }
 {
     let answer = content_check(type_text, content);
@@ -108,7 +108,7 @@ pub fn content_number(type_text: &[u8], content: &[u8]) -> u8
 }
 
 // The number of a child of such a BIND: a BIND there is level 2.
-pub fn nested_number(type_text: &[u8], content: &[u8]) -> u8
+pub fn nested_fault(type_text: &[u8], content: &[u8]) -> u8
     ensures { λ r. ⌜ r ≡ contentFault nestedLevels (now («type_text» .entry)) (now (content .entry)) ⌝ }
 {
     let answer = check_content(type_text, content, 3);
@@ -116,7 +116,7 @@ pub fn nested_number(type_text: &[u8], content: &[u8]) -> u8
 }
 
 // The number of a BIND content.
-pub fn bind_number(content: &[u8]) -> u8
+pub fn bind_fault(content: &[u8]) -> u8
     ensures { λ r. ⌜ r ≡ bindFault deepest (now (content .entry)) ⌝ }
 {
     let answer = bind_check(content);

@@ -10,18 +10,18 @@ use Rattle.crc64.specs.Crc.{crcOf}
 use Rattle.image.specs.Image.{imageFault}
 use Rattle.image.specs.Examples as image
 use Rattle.content.specs.Kinds.{transformText}
-use Rattle.content.specs.Check.{bindFault, deepest}
+use Rattle.content.specs.ContentCheck.{bindFault, deepest}
 use Rattle.content.specs.Examples.{oneChild}
 use Rattle.message.specs.declared.Layout.{Layout}
 use Rattle.message.specs.declared.Layout.the-variants.{New, Old}
 use Rattle.message.specs.Message.{Message}
-use Rattle.message.specs.Check.{readOf, contentIn}
-use Rattle.message.specs.Check as message
+use Rattle.message.specs.MessageReader.{readOf, contentIn}
+use Rattle.message.specs.MessageReader as message
 use Rattle.message.specs.Samples.{armMessage, armContent}
 use Rattle.message.specs.Examples.{ofVersion2, getStatusText, body12}
 use Rattle.history.specs.Calls.{Call, linkUp, look, green, grey, refused, shown}
 use Rattle.history.specs.History.{valueFor}
-use Rattle.history.specs.Books.{armBytesCalls}
+use Rattle.history.specs.BookTheorems.{armBytesCalls}
 use Rattle.panel.specs.Examples.{FromArm, armTile, armCalls, looked}
 
 -- ---- the inputs

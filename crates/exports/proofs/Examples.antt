@@ -1,17 +1,17 @@
 -- The examples, by computation.
 use mathlib.Core.Path.{refl}
 use Rattle.fields.specs.Answer.{roomFault}
-use Rattle.fields.specs.Lists.{all}
+use Rattle.fields.specs.Lists.{allOf}
 use Rattle.fields.specs.Numbers.{beVal, beBytes}
 use Rattle.fields.specs.Text.{isText, textOf, pastText, allZero, textOk, textClean, fieldOk}
 use Rattle.header.specs.Check.{headerOf, shortFault, textsFault, limitFault, headerFault}
-use Rattle.message.specs.Check.{wholeFault, versionFault, bodyChecks, frontFault, numberOf, stepOf, readOf}
+use Rattle.message.specs.MessageReader.{wholeFault, versionFault, bodyChecks, frontFault, numberOf, stepOf, readOf}
 use Rattle.feed.specs.Push.{openOf, pushFault, passedOf, fittingOf, takenIn, pushOf, storedTo, bufferOf}
 use Rattle.exports.specs.Exports.{fedFor}
 use Rattle.exports.specs.Examples.{Examples}
 
 pub examples : Examples
-unfolding roomFault all beVal beBytes isText textOf pastText allZero textOk textClean fieldOk headerOf shortFault textsFault limitFault headerFault wholeFault versionFault bodyChecks frontFault numberOf stepOf readOf openOf pushFault passedOf fittingOf takenIn pushOf storedTo bufferOf fedFor
+unfolding roomFault allOf beVal beBytes isText textOf pastText allZero textOk textClean fieldOk headerOf shortFault textsFault limitFault headerFault wholeFault versionFault bodyChecks frontFault numberOf stepOf readOf openOf pushFault passedOf fittingOf takenIn pushOf storedTo bufferOf fedFor
 examples =
     record {
       answer-bytes = refl;

@@ -7,7 +7,7 @@ use lib.ListN.{replicate}
 use Rattle.fields.specs.Layout.{join}
 use Rattle.message.specs.declared.Layout.{Layout}
 use Rattle.message.specs.declared.Answer.{Answer}
-use Rattle.message.specs.Check.{refused}
+use Rattle.message.specs.MessageReader.{refused}
 use Rattle.feed.specs.declared.PushAnswer.the-variants.{Nothing, Read}
 use Rattle.feed.specs.declared.PushAnswer.the-variants as pushing
 use Rattle.feed.specs.Push.{openOf}

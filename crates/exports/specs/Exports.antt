@@ -8,8 +8,8 @@ use Rattle.fields.specs.Numbers.{beAt}
 use Rattle.fields.specs.Layout.{join, numberFields}
 use Rattle.message.specs.declared.Answer.{Answer}
 use Rattle.message.specs.Message.{Parts}
-use Rattle.message.specs.Writer.{given}
-use Rattle.message.specs.Check as message
+use Rattle.message.specs.MessageWriter.{given}
+use Rattle.message.specs.MessageReader as message
 use Rattle.feed.specs.declared.Feed.{Feed}
 use Rattle.feed.specs.declared.OpenAnswer.{OpenAnswer}
 use Rattle.feed.specs.declared.OpenAnswer.the-variants as opening

@@ -16,10 +16,10 @@ ghost use lib.Seq.{sets};
 ghost use Rattle.fields.specs.Answer.{writtenNumber, writtenCount};
 ghost use Rattle.fields.specs.Layout.{stores, numberFields};
 ghost use Rattle.crc64.specs.Crc.{crcOf};
-ghost use Rattle.content.specs.Check.{contentFault, deepest};
-ghost use Rattle.message.specs.Layouts.{layoutOf};
-ghost use Rattle.message.specs.Check.{readOf};
-ghost use Rattle.message.specs.Writer.{messageWritten, messageOut};
+ghost use Rattle.content.specs.ContentCheck.{contentFault, deepest};
+ghost use Rattle.message.specs.LayoutNumber.{layoutOf};
+ghost use Rattle.message.specs.MessageReader.{readOf};
+ghost use Rattle.message.specs.MessageWriter.{messageWritten, messageOut};
 ghost use Rattle.feed.specs.Push.{openOf};
 ghost use Rattle.replay.specs.Replay.{answerAt, lookAfter};
 ghost use Rattle.exports.specs.Exports.{fieldNumbers, partNumbers, markNumber, answerBytes, messageGiven, pushCode, pushRead, pushedBytes, started, fedBy, fedTotal, fedBuffer, fedBytes, answerCode, carriedNumber, answeredFields, answeredBytes};
@@ -34,10 +34,10 @@ pub extern "C" fn kudireppa_crc64(bytes: &[u8]) -> u64
 }
 
 #[no_mangle]
-pub extern "C" fn kudireppa_content_number(type_text: &[u8], content: &[u8]) -> u8
+pub extern "C" fn kudireppa_content_fault(type_text: &[u8], content: &[u8]) -> u8
     ensures { λ r. ⌜ r ≡ contentFault deepest (now («type_text» .entry)) (now (content .entry)) ⌝ }
 {
-    content::content_number(type_text, content)
+    content::content_fault(type_text, content)
 }
 
 // ---- messages

@@ -5,14 +5,14 @@ use mathlib.Core.List.{List, [], _∷_, _++_}
 use native.Mathlib.Omega.{arith}
 use lib.ListN.{length}
 use Rattle.fields.specs.Answer.{roomFault}
-use Rattle.fields.specs.Lists.{all, flat}
+use Rattle.fields.specs.Lists.{allOf, flat}
 use Rattle.fields.specs.Numbers.{beVal}
 use Rattle.fields.specs.Text.{isText, textOf, pastText, allZero, textOk, textClean, fieldOk}
 use Rattle.header.specs.Check.{headerOf, shortFault, textsFault, limitFault, headerFault}
 use Rattle.message.specs.declared.Layout.{Layout}
 use Rattle.message.specs.declared.Layout.the-variants.{New, Old}
 use Rattle.message.specs.declared.Answer.{Answer}
-use Rattle.message.specs.Check.{wholeFault, versionFault, bodyChecks, frontFault, numberOf, stepOf, refused, readOf}
+use Rattle.message.specs.MessageReader.{wholeFault, versionFault, bodyChecks, frontFault, numberOf, stepOf, refused, readOf}
 use Rattle.message.specs.Message.{WellFormed, encode}
 use Rattle.message.specs.Samples.{armMessage, probeBytes, probeAnswer}
 use Rattle.message.proofs.Samples.{samples}
@@ -25,7 +25,7 @@ arm-sent : (l : Layout) → WellFormed l armMessage × (length (encode l armMess
 arm-sent l = (samples .arm l .well, omega (arith, ap length (samples .arm l .bytes)))
 
 common : (l : Layout) → Common l
-unfolding roomFault all flat beVal isText textOf pastText allZero textOk textClean fieldOk headerOf shortFault textsFault limitFault headerFault wholeFault versionFault bodyChecks frontFault numberOf stepOf readOf openOf pushFault passedOf fittingOf takenIn pushOf storedTo bufferOf runOn
+unfolding roomFault allOf flat beVal isText textOf pastText allZero textOk textClean fieldOk headerOf shortFault textsFault limitFault headerFault wholeFault versionFault bodyChecks frontFault numberOf stepOf readOf openOf pushFault passedOf fittingOf takenIn pushOf storedTo bufferOf runOn
 common l =
     record {
       too-short = refl;
@@ -66,7 +66,7 @@ common l =
 
 -- the message of V 2 in its two layouts: the answers of the runs are the reader's
 twice : (l : Layout) (a b : Answer) → readOf l (probeBytes New) ≡ a → readOf l (probeBytes Old) ≡ b → Twice l (probeBytes New) a × Twice l (probeBytes Old) b
-unfolding roomFault all beVal isText textOf pastText allZero textOk textClean fieldOk headerOf shortFault textsFault limitFault headerFault pushFault fittingOf takenIn pushOf storedTo bufferOf runOn
+unfolding roomFault allOf beVal isText textOf pastText allZero textOk textClean fieldOk headerOf shortFault textsFault limitFault headerFault pushFault fittingOf takenIn pushOf storedTo bufferOf runOn
 twice l a b e d = (
   record { answers = λ i. e i ∷ e i ∷ []; feed = refl; taken = refl; buffer = refl },
   record { answers = λ i. d i ∷ d i ∷ []; feed = refl; taken = refl; buffer = refl },

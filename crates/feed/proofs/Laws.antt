@@ -7,5 +7,5 @@ pub mod Readings
 pub mod Cuts
 pub mod Sent
 pub mod Answers
-pub mod Feeds
+pub mod FeedTheorems
 pub mod Code

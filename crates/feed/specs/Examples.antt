@@ -9,7 +9,7 @@ use Rattle.fields.specs.Lists.{Each, flat}
 use Rattle.message.specs.declared.Layout.{Layout}
 use Rattle.message.specs.declared.Layout.the-variants.{New, Old}
 use Rattle.message.specs.declared.Answer.{Answer}
-use Rattle.message.specs.Check.{refused}
+use Rattle.message.specs.MessageReader.{refused}
 use Rattle.message.specs.Message.{WellFormed, encode}
 use Rattle.message.specs.Samples.{armMessage, armBytes, armAnswer, answerOf1, probeBytes, probeAnswer}
 use Rattle.message.specs.ReceivedSamples.{unclean, trackerBytes}
@@ -110,7 +110,7 @@ pub record Common (l : Layout) : Type 0 where
   -- one that is not clean, cut within the rest of TYPE and within that of DEVICE_NAME (rule 13.2); it is kept as it was received
   pub not-clean : Said (run l (filled 108) (take 13 uncleared ∷ take 12 (drop 13 uncleared) ∷ drop 25 uncleared ∷ []))
       (unclean (answerOf1 9 3 0 48) ∷ []) (state l 108 0 0 0 false) uncleared (uncleared ++ filled 2)
-  -- two messages in one fragment after the other: what `Feeds` (sent) asks for is there
+  -- two messages in one fragment after the other: what `FeedTheorems` (sent) asks for is there
   pub sent : Each (λ m. WellFormed l m × (length (encode l m) ≤ 108)) (armMessage ∷ armMessage ∷ [])
   pub sent-taken : run l (filled 108) (armBytes ∷ armBytes ∷ []) .taken ≡ flat (encode l) (armMessage ∷ armMessage ∷ [])
   -- 21 before 20 for another length; a length under 58, of a feed that no opening gives

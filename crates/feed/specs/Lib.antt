@@ -3,5 +3,5 @@
 pub mod Reading
 pub mod Push
 pub mod Runs
-pub mod Feeds
+pub mod FeedTheorems
 pub mod Examples

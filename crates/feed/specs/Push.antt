@@ -8,7 +8,7 @@ use lib.Seq.{sets}
 use Rattle.fields.specs.Answer.{roomFault}
 use Rattle.header.specs.Check.{headerFault}
 use Rattle.message.specs.declared.Layout.{Layout}
-use Rattle.message.specs.Check.{readOf, refused}
+use Rattle.message.specs.MessageReader.{readOf, refused}
 use Rattle.feed.specs.Reading.{endOf}
 use Rattle.feed.specs.declared.Feed.{Feed}
 use Rattle.feed.specs.declared.OpenAnswer.{OpenAnswer}

@@ -8,7 +8,7 @@ use lib.ListN.{length, drop}
 use Rattle.header.specs.Check.{headerOf, headerFault}
 use Rattle.message.specs.declared.Layout.{Layout}
 use Rattle.message.specs.declared.Answer.{Answer}
-use Rattle.message.specs.Check.{readOf, refused}
+use Rattle.message.specs.MessageReader.{readOf, refused}
 
 pub record Reading : Type 0 where
   pub answers : List Answer

@@ -4,7 +4,7 @@ use mathlib.Core.Path.{refl}
 use mathlib.Core.List.{[], _∷_}
 use native.Mathlib.Omega.{arith}
 use Rattle.fields.specs.Bytes.{Bytes, same, sized}
-use Rattle.fields.specs.Lists.{all}
+use Rattle.fields.specs.Lists.{allOf}
 use Rattle.fields.specs.Numbers.{beVal, beBytes}
 use Rattle.fields.specs.Text.{isText, textOf, pastText, allZero, textOk, textClean, fieldOk, textBytes}
 use Rattle.fields.specs.Received.{fieldBytes}
@@ -16,7 +16,7 @@ below zero = omega arith
 below (suc i) = omega arith
 
 pub examples : Examples
-unfolding same sized all beVal beBytes isText textOf pastText allZero textOk textClean fieldOk textBytes fieldBytes checked writtenOf roomFault outAfter
+unfolding same sized allOf beVal beBytes isText textOf pastText allZero textOk textClean fieldOk textBytes fieldBytes checked writtenOf roomFault outAfter
 examples =
     record {
       byte = below;

@@ -1,4 +1,4 @@
--- Layouts: fields of given widths, one after the other, cut from bytes and joined to bytes. A table of fields in a protocol is such a list.
+-- LayoutTheorems: fields of given widths, one after the other, cut from bytes and joined to bytes. A table of fields in a protocol is such a list.
 use Prim.Native.Nat.{ℕ, _+_, _^_, _<_}
 use mathlib.Core.Path.{_≡_}
 use mathlib.Core.List.{List, [], _∷_, _++_, map}
@@ -57,7 +57,7 @@ NumbersFit (w ∷ ws) (v ∷ vs) = (v < 256 ^ w) × NumbersFit ws vs
 -- ---- what is proved of them, for any number of fields of any widths: joined fields are cut into themselves wherever they stand, cut fields
 -- join to the bytes that were cut, and the stores of the fields are one store of the joined bytes
 
-pub record Layouts : Type 0 where
+pub record LayoutTheorems : Type 0 where
   pub read-back : (before : List ℕ) (fields : List (List ℕ)) (widths after : List ℕ) → Widths fields widths
       → cut (length before) widths (before ++ (join fields ++ after)) ≡ fields
   pub written-back : (at : ℕ) (widths s : List ℕ) → join (cut at widths s) ≡ part (total widths) at s

@@ -7,7 +7,7 @@ use mathlib.Core.List.{List, [], _∷_}
 use lib.Dec.{eqb, ltb, leb}
 use lib.ListN.{length}
 use Rattle.fields.specs.Bytes.{sized}
-use Rattle.fields.specs.Lists.{all, Each}
+use Rattle.fields.specs.Lists.{allOf, Each}
 
 -- may the byte stand in a text?
 abbrev pub textByte : ℕ → Bool
@@ -15,7 +15,7 @@ textByte b = ltb 0 b && ltb b 128
 
 -- is it a text: bytes 1 to 127 and nothing else? Names and keys are texts
 unfoldable pub isText : List ℕ → Bool
-isText t = all textByte t
+isText t = allOf textByte t
 
 -- the rule that this tests
 abbrev pub Text : List ℕ → Type 0
@@ -36,7 +36,7 @@ abbrev pub zeroByte : ℕ → Bool
 zeroByte b = leb b 0
 
 unfoldable pub allZero : List ℕ → Bool
-allZero s = all zeroByte s
+allZero s = allOf zeroByte s
 
 -- rule 2.4: what stands before the first 0 is a text
 unfoldable pub textOk : List ℕ → Bool

@@ -1,7 +1,7 @@
 -- The examples, by computation.
 use mathlib.Core.Path.{refl}
 use Rattle.fields.specs.Bytes.{sized}
-use Rattle.fields.specs.Lists.{all}
+use Rattle.fields.specs.Lists.{allOf}
 use Rattle.fields.specs.Numbers.{beVal, beBytes}
 use Rattle.fields.specs.Text.{isText, textOf, pastText, allZero, textOk, textClean, fieldOk, textBytes}
 use Rattle.fields.specs.Received.{fieldBytes}
@@ -11,7 +11,7 @@ use Rattle.header.specs.Check.{headerOf, shortFault, textsFault, limitFa
 use Rattle.header.specs.Examples.{Examples}
 
 pub examples : Examples
-unfolding sized all beVal beBytes isText textOf pastText allZero textOk textClean fieldOk textBytes fieldBytes writtenOf roomFault outAfter encodeHeader headerOf shortFault textsFault limitFault headerFault headerRead namesFault writeFault headerWritten headerOut
+unfolding sized allOf beVal beBytes isText textOf pastText allZero textOk textClean fieldOk textBytes fieldBytes writtenOf roomFault outAfter encodeHeader headerOf shortFault textsFault limitFault headerFault headerRead namesFault writeFault headerWritten headerOut
 examples =
     record {
       layout = refl;

@@ -2,6 +2,6 @@
 
 pub mod Header
 pub mod Check
-pub mod Headers
+pub mod HeaderTheorems
 pub mod TimeStamp
 pub mod Examples

@@ -148,7 +148,7 @@ pub fn read_header(stream: &[u8]) -> HeaderRead
 }
 
 // 2 where these are no names for a writer (rule 5.8): texts of at most 12 bytes for TYPE and 20 for DEVICE_NAME.
-pub fn names_number(type_text: &[u8], device_name: &[u8]) -> u8
+pub fn names_fault(type_text: &[u8], device_name: &[u8]) -> u8
     ensures { λ r. ⌜ r ≡ namesFault (now («type_text» .entry)) (now («device_name» .entry)) ⌝ }
 {
     if 12 < type_text.len() {
@@ -170,7 +170,7 @@ pub fn names_number(type_text: &[u8], device_name: &[u8]) -> u8
 fn write_fault(header: HeaderFields, type_text: &[u8], device_name: &[u8], room: usize) -> u8
     ensures { λ r. ⌜ r ≡ writeFault (given header (now («type_text» .entry)) (now («device_name» .entry))) room ⌝ }
 {
-    let names = names_number(type_text, device_name);
+    let names = names_fault(type_text, device_name);
     if names != 0 {
         return names;
     }

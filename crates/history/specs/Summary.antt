@@ -7,7 +7,7 @@ use mathlib.Core.Option.{Option, none, some}
 use lib.Dec.{eqb, leb, ltb}
 use lib.ListN.{length}
 use Rattle.fields.specs.Bytes.{same}
-use Rattle.fields.specs.Lists.{any}
+use Rattle.fields.specs.Lists.{anyOf}
 use Rattle.fields.specs.Text.{isText}
 use Rattle.fields.specs.Checks.{orElse}
 use Rattle.content.specs.Kinds.{transformText, positionText}
@@ -75,7 +75,7 @@ isFull b = leb 16 (countOf (b .tiles))
 
 -- is there a tile whose name and type the message carries (check 13)?
 abbrev pub countsOn : List (Option Entry) → Message → Bool
-countsOn ts m = any (passes (carries m)) ts
+countsOn ts m = anyOf (passes (carries m)) ts
 
 -- the reader's number, then 12, then 13 (rule 7.5)
 abbrev pub readingNumber : List (Option Entry) → Reading → ℕ
@@ -100,7 +100,7 @@ module _ (R : Reader) where
   -- the number that a call's checks on the book give (rules 7.3 to 7.7), where it is given whether all places for tiles are taken. 0 means
   -- that the call is accepted; a message then counts
   abbrev pub numberBy : Bool → Summary → Call → ℕ
-  numberBy full b (add t n h) = orElse (allowedFault t n h) (orElse (cond (any (passes (isOf t n)) (b .tiles)) 17 0) (cond full 18 0))
+  numberBy full b (add t n h) = orElse (allowedFault t n h) (orElse (cond (anyOf (passes (isOf t n)) (b .tiles)) 17 0) (cond full 18 0))
   numberBy full b (linkUp l t) = clockFault (b .link .clock) t
   numberBy full b (linkDown t) = clockFault (b .link .clock) t
   numberBy full b (message t s) =

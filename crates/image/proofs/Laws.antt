@@ -18,7 +18,7 @@ use Rattle.fields.proofs.Laws.Checks.{cond-pass, cond-refused, zero-else, else-
 use Rattle.fields.proofs.Laws.Answer.{written-wrote, written-refused, written-number, room-enough, room-fits, out-wrote, out-refused, out-sets}
 use Rattle.image.specs.declared.ImageHeader.{ImageHeader}
 use Rattle.image.specs.declared.ImageRead.{ImageRead}
-use Rattle.image.specs.Image.{Image, HeaderFits, WellImage, encodeImage, headerWidths, headerNumbers, headerOk, ruleFault, headerOf, imageFault, noHeader, imageOf, pixelsOf, imageOfParts, writeFault, imageWritten, imageAfter, Images}
+use Rattle.image.specs.Image.{Image, HeaderFits, WellImage, encodeImage, headerWidths, headerNumbers, headerOk, ruleFault, headerOf, imageFault, noHeader, imageOf, pixelsOf, imageOfParts, writeFault, imageWritten, imageAfter, ImageTheorems}
 use Rattle.image.proofs.Header.{length-image, stores-image, pixels-front, encode-parts, header-fits, header-front}
 use Rattle.image.proofs.Rule.{rule-holds, rule-passes, rule-kept}
 
@@ -194,8 +194,8 @@ answered c = refl
 
 -- ---- the laws, as they are stated
 
-pub images : Images
-images =
+pub image-theorems : ImageTheorems
+image-theorems =
     record {
       accepted = image-accepted;
       refused = λ c b n. number-refused c (λ z. n (image-accepted c b z));

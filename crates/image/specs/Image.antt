@@ -214,7 +214,7 @@ imageAfter h p out = outAfter (writeFault h (length p) (length out)) (encodeImag
 
 -- ---- what is proved of them
 
-pub record Images : Type 0 where
+pub record ImageTheorems : Type 0 where
   -- accepted bytes are those of some well formed image, those of a well formed image are accepted, and they are no other's; else they are 9
   pub accepted : (c : List ℕ) → Bytes c → imageFault c ≡ 0 → IsImage c
   pub refused : (c : List ℕ) → Bytes c → (IsImage c → ⊥) → imageFault c ≡ 9

@@ -221,7 +221,7 @@ fn no_header() -> ImageHeader
 }
 
 // 9 where the content breaks the rule, otherwise 0.
-pub fn image_number(content: &[u8]) -> u8
+pub fn image_fault(content: &[u8]) -> u8
     ensures { λ r. ⌜ r ≡ imageFault (now (content .entry)) ⌝ }
 {
     if content.len() < 72 {
@@ -234,7 +234,7 @@ pub fn image_number(content: &[u8]) -> u8
 pub fn read_image(content: &[u8]) -> ImageRead
     ensures { λ r. ⌜ r ≡ imageOf (now (content .entry)) ⌝ }
 {
-    let number = image_number(content);
+    let number = image_fault(content);
     if number != 0 {
         let header = no_header();
         return ImageRead { number, header };
@@ -247,7 +247,7 @@ pub fn read_image(content: &[u8]) -> ImageRead
 pub fn pixels(content: &[u8]) -> &[u8]
     ensures { λ r. ⌜ now r ≡ pixelsOf (now (content .entry)) ⌝ }
 {
-    if image_number(content) != 0 {
+    if image_fault(content) != 0 {
         return first(content, 0);
     }
     rest(content, 72)

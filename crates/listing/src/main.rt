@@ -7,7 +7,7 @@ use message::Layout;
 ghost use mathlib.Core.Path.{_≡_};
 ghost use lib.ListN.{drop};
 ghost use Rattle.message.specs.declared.Layout.the-variants.{New};
-ghost use Rattle.message.specs.Check.{readOf};
+ghost use Rattle.message.specs.MessageReader.{readOf};
 
 fn print_line(at: usize, answer: Answer) {
     io::print_decimal(STDOUT_FILENO, at as u64);

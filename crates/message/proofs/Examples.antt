@@ -8,7 +8,7 @@ use native.Mathlib.Omega.{arith}
 use lib.ListN.{length, replicate}
 use Rattle.fields.specs.Bytes.{Bytes}
 use Rattle.fields.specs.Numbers.{beBytes}
-use Rattle.fields.specs.Lists.{all}
+use Rattle.fields.specs.Lists.{allOf}
 use Rattle.fields.specs.Text.{isText, Text}
 use Rattle.fields.proofs.Laws.Bytes.{bytes-nil}
 use Rattle.fields.proofs.Laws.Text.{is-text}
@@ -23,12 +23,12 @@ use Rattle.message.specs.declared.Layout.{Layout}
 use Rattle.message.specs.declared.Layout.the-variants.{New, Old}
 use Rattle.message.specs.Body.{encodeBody, MetadataFits}
 use Rattle.message.specs.Message.{Message, Parts, messageBody, encodeWith, encode}
-use Rattle.message.specs.Check.{refused, readOf}
+use Rattle.message.specs.MessageReader.{refused, readOf}
 use Rattle.message.specs.Demand2.{Begins}
-use Rattle.message.specs.Numbers.{Whole}
+use Rattle.message.specs.MessageNumbers.{Whole}
 use Rattle.message.specs.Examples.{ofVersion2, getStatusText, body12, Accepted70, Examples}
 use Rattle.message.proofs.Laws.Messages.{demand-2}
-use Rattle.message.proofs.Laws.Numbers.{refusals}
+use Rattle.message.proofs.Laws.MessageNumbers.{refusals}
 
 -- a header of V 2 for a body
 abbrev headerOfVersion2 : List ℕ → List ℕ → ℕ → List ℕ → Header
@@ -74,7 +74,7 @@ opaque =
     }
 
 status-text : isText getStatusText ≡ true
-unfolding isText all
+unfolding isText allOf
 status-text = refl
 
 status-body : (l : Layout) (n : List ℕ) (stamp id : ℕ) → messageBody l (status n stamp id) ≡ body12 l id

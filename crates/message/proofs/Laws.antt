@@ -6,5 +6,5 @@ pub mod Read
 pub mod Front
 pub mod Writer
 pub mod Messages
-pub mod Numbers
-pub mod Both
+pub mod MessageNumbers
+pub mod BothLayouts

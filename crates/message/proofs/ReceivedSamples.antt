@@ -6,7 +6,7 @@ use mathlib.Core.List.{List, [], _∷_}
 use native.Mathlib.Omega.{arith}
 use lib.ListN.{replicate}
 use Rattle.fields.specs.Bytes.{same, sized}
-use Rattle.fields.specs.Lists.{all, flat}
+use Rattle.fields.specs.Lists.{allOf, flat}
 use Rattle.fields.specs.Numbers.{beVal, beBytes}
 use Rattle.fields.specs.Text.{isText, textOf, pastText, allZero, textOk, textClean, fieldOk, textBytes}
 use Rattle.fields.specs.Received.{fieldBytes, Fills}
@@ -17,32 +17,32 @@ use Rattle.crc64.specs.Crc.{bitStep, run, bitAt, bitsOf, bits, crcOf}
 use Rattle.header.specs.Header.{encodeHeader}
 use Rattle.header.specs.Check.{headerOf, shortFault, textsFault, limitFault, headerFault, namesFault}
 use Rattle.metadata.specs.Metadata.{encodeMetadata, WellMetadata}
-use Rattle.metadata.specs.Check.{entryOk, entriesOk, sectionOk, metadataFault, indexIn}
+use Rattle.metadata.specs.MetadataCheck.{entryOk, entriesOk, sectionOk, metadataFault, indexIn}
 use Rattle.pose.specs.Words.{wordBytes}
 use Rattle.pose.specs.Transform.{WellTransform, transformFault}
-use Rattle.bundle.specs.Children.{padded, childHeader, childName, childData, nameTable, encodeChildren}
-use Rattle.bundle.specs.Layout.{typesOk, typesClean, nameOk, namesOk, tableOk, padOk, blockOk, dataOk, layoutOk, layoutFault}
+use Rattle.bind_layout.specs.Children.{padded, childHeader, childName, childData, nameTable, encodeChildren}
+use Rattle.bind_layout.specs.BindLayout.{typesOk, typesClean, nameOk, namesOk, tableOk, padOk, blockOk, dataOk, layoutOk, layoutFault}
 use Rattle.content.specs.Kinds.{transformText, bindText, kindOf}
-use Rattle.content.specs.Check.{childrenFault, bindFault, contentFault, childrenClean, bindClean, contentClean}
+use Rattle.content.specs.ContentCheck.{childrenFault, bindFault, contentFault, childrenClean, bindClean, contentClean}
 use Rattle.content.specs.Tree as tree
 use Rattle.content.specs.Examples.{innerRest, outerRest}
-use Rattle.cleaning.specs.Clean.{cleanHeaders, cleanFront, cleanDatas, cleanBind, cleanBytes}
+use Rattle.cleaning.specs.CleanBytes.{cleanHeaders, cleanFront, cleanDatas, cleanBind, cleanBytes}
 use Rattle.message.specs.declared.Layout.{Layout}
 use Rattle.message.specs.declared.Layout.the-variants.{New, Old}
 use Rattle.message.specs.Body.{encodeBody}
 use Rattle.message.specs.Message.{encodeWith, WellFormed}
-use Rattle.message.specs.Check.{extendedOk, bodyFault, sizesFault, placesOf, wholeFault, versionFault, crcFault, sectionsFault, foundFault, bodyChecks, bodyClean, frontFault, numberOf, stepOf, readOf}
-use Rattle.message.specs.Writer.{fits, fitFault, sectionsChecks, writeChecks, writeFault, messageWritten, messageOut}
+use Rattle.message.specs.MessageReader.{extendedOk, bodyFault, sizesFault, placesOf, wholeFault, versionFault, crcFault, sectionsFault, foundFault, bodyChecks, bodyClean, frontFault, numberOf, stepOf, readOf}
+use Rattle.message.specs.MessageWriter.{fits, fitFault, sectionsChecks, writeChecks, writeFault, messageWritten, messageOut}
 use Rattle.message.specs.Samples.{armText}
 use Rattle.message.specs.ReceivedSamples.{trackerMessage, bundleMessage, ReceivedSamples}
 use Rattle.message.proofs.Laws.Below.{each-below, bytes-below}
 
 sevens : WellTransform (replicate 12 0x07070707)
-unfolding all
+unfolding allOf
 sevens = record { count = refl; words = each-below (256 ^ 4) (replicate 12 0x07070707) refl }
 
 tracker-well : (l : Layout) → WellFormed l trackerMessage
-unfolding encodeMetadata WellMetadata tree.WellFormed tree.encode encodeBody wordBytes flat beBytes isText all
+unfolding encodeMetadata WellMetadata tree.WellFormed tree.encode encodeBody wordBytes flat beBytes isText allOf
 tracker-well l =
     record {
       type-fills =
@@ -67,16 +67,16 @@ tracker-well l =
     }
 
 inner-fills : Fills 12 transformText innerRest
-unfolding isText all
+unfolding isText allOf
 inner-fills =
     record { text = is-text transformText refl; rest = inr (0xC8 ∷ 0xC8 ∷ [], refl); bytes = bytes-below innerRest refl; width = refl }
 
 outer-fills : Fills 12 bindText outerRest
-unfolding isText all
+unfolding isText allOf
 outer-fills = record { text = is-text bindText refl; rest = inr (replicate 7 0xFF, refl); bytes = bytes-below outerRest refl; width = refl }
 
 bundle-well : (l : Layout) → WellFormed l bundleMessage
-unfolding encodeMetadata WellMetadata tree.WellFormed tree.encode encodeBody encodeChildren nameTable padded childHeader childName childData fieldBytes sized wordBytes flat beBytes isText all
+unfolding encodeMetadata WellMetadata tree.WellFormed tree.encode encodeBody encodeChildren nameTable padded childHeader childName childData fieldBytes sized wordBytes flat beBytes isText allOf
 bundle-well l =
     record {
       type-fills = zero-fills 12 bindText (is-text bindText refl) (omega arith);
@@ -106,7 +106,7 @@ bundle-well l =
     }
 
 pub received-samples : ReceivedSamples
-unfolding encodeWith encodeHeader encodeBody encodeMetadata tree.encode tree.cleaned wordBytes flat beBytes textBytes fieldBytes sized crcOf bits bitsOf bitAt run bitStep readOf numberOf stepOf frontFault bodyChecks bodyClean foundFault sizesFault sectionsFault crcFault versionFault wholeFault placesOf bodyFault extendedOk contentFault contentClean kindOf transformFault metadataFault sectionOk entriesOk entryOk indexIn headerOf shortFault textsFault limitFault headerFault beVal textOf pastText allZero textOk textClean fieldOk isText all same padded childHeader childName childData nameTable encodeChildren typesOk typesClean nameOk namesOk tableOk padOk blockOk dataOk layoutOk layoutFault childrenFault bindFault childrenClean bindClean cleanHeaders cleanFront cleanDatas cleanBind cleanBytes messageWritten messageOut writeFault writeChecks sectionsChecks fitFault fits namesFault writtenOf roomFault outAfter
+unfolding encodeWith encodeHeader encodeBody encodeMetadata tree.encode tree.cleaned wordBytes flat beBytes textBytes fieldBytes sized crcOf bits bitsOf bitAt run bitStep readOf numberOf stepOf frontFault bodyChecks bodyClean foundFault sizesFault sectionsFault crcFault versionFault wholeFault placesOf bodyFault extendedOk contentFault contentClean kindOf transformFault metadataFault sectionOk entriesOk entryOk indexIn headerOf shortFault textsFault limitFault headerFault beVal textOf pastText allZero textOk textClean fieldOk isText allOf same padded childHeader childName childData nameTable encodeChildren typesOk typesClean nameOk namesOk tableOk padOk blockOk dataOk layoutOk layoutFault childrenFault bindFault childrenClean bindClean cleanHeaders cleanFront cleanDatas cleanBind cleanBytes messageWritten messageOut writeFault writeChecks sectionsChecks fitFault fits namesFault writtenOf roomFault outAfter
 received-samples =
     record {
       tracker = λ l.

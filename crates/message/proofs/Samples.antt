@@ -5,7 +5,7 @@ use mathlib.Core.Logic.{inl, inr}
 use mathlib.Core.List.{List, [], _∷_, append-nil}
 use native.Mathlib.Omega.{arith}
 use Rattle.fields.specs.Bytes.{same, sized}
-use Rattle.fields.specs.Lists.{all, flat}
+use Rattle.fields.specs.Lists.{allOf, flat}
 use Rattle.fields.specs.Numbers.{beVal, beBytes}
 use Rattle.fields.specs.Text.{isText, textOf, pastText, allZero, textOk, textClean, fieldOk, textBytes}
 use Rattle.fields.specs.Received.{fieldBytes}
@@ -14,23 +14,23 @@ use Rattle.crc64.specs.Crc.{bitStep, run, bitAt, bitsOf, bits, crcOf}
 use Rattle.header.specs.Header.{encodeHeader}
 use Rattle.header.specs.Check.{headerOf, shortFault, textsFault, limitFault, headerFault, namesFault}
 use Rattle.metadata.specs.Metadata.{WellEntry, entryHeader, entryData, encodeMetadata, WellMetadata}
-use Rattle.metadata.specs.Check.{entryOk, entriesOk, sectionOk, metadataFault, indexIn}
+use Rattle.metadata.specs.MetadataCheck.{entryOk, entriesOk, sectionOk, metadataFault, indexIn}
 use Rattle.pose.specs.Words.{wordBytes}
 use Rattle.pose.specs.Transform.{transformFault}
 use Rattle.pose.specs.Position.{six, wordsIn, positionFault}
 use Rattle.content.specs.Kinds.{transformText, positionText, kindOf}
-use Rattle.content.specs.Check.{contentFault, contentClean}
-use Rattle.cleaning.specs.Clean.{cleanBytes}
+use Rattle.content.specs.ContentCheck.{contentFault, contentClean}
+use Rattle.cleaning.specs.CleanBytes.{cleanBytes}
 use Rattle.content.specs.Tree as tree
 use Rattle.content.proofs.Examples as content
 use Rattle.content.specs.Tree.{Opaque}
 use Rattle.message.specs.declared.Layout.{Layout}
 use Rattle.message.specs.declared.Layout.the-variants.{New, Old}
-use Rattle.message.specs.Layouts.{layoutOf}
+use Rattle.message.specs.LayoutNumber.{layoutOf}
 use Rattle.message.specs.Body.{encodeBody, MetadataFits}
 use Rattle.message.specs.Message.{encodeWith, WellFormed}
-use Rattle.message.specs.Check.{extendedOk, bodyFault, sizesFault, placesOf, wholeFault, versionFault, crcFault, sectionsFault, foundFault, bodyChecks, bodyClean, frontFault, numberOf, stepOf, readOf, refused}
-use Rattle.message.specs.Writer.{fits, fitFault, sectionsChecks, writeChecks, writeFault, messageWritten, messageOut}
+use Rattle.message.specs.MessageReader.{extendedOk, bodyFault, sizesFault, placesOf, wholeFault, versionFault, crcFault, sectionsFault, foundFault, bodyChecks, bodyClean, frontFault, numberOf, stepOf, readOf, refused}
+use Rattle.message.specs.MessageWriter.{fits, fitFault, sectionsChecks, writeChecks, writeFault, messageWritten, messageOut}
 use Rattle.message.proofs.Laws.Below.{each-below, bytes-below}
 use Rattle.fields.proofs.Laws.Text.{is-text}
 use Rattle.fields.proofs.Laws.Received.{zero-fills}
@@ -46,7 +46,7 @@ opaque =
     }
 
 arm-well : (l : Layout) → WellFormed l armMessage
-unfolding encodeMetadata WellMetadata tree.WellFormed tree.encode encodeBody wordBytes flat beBytes isText all
+unfolding encodeMetadata WellMetadata tree.WellFormed tree.encode encodeBody wordBytes flat beBytes isText allOf
 arm-well l =
     record {
       type-fills = zero-fills 12 transformText (is-text transformText refl) (omega arith);
@@ -59,7 +59,7 @@ arm-well l =
     }
 
 entry-well : WellEntry (record { key = 75 ∷ []; encoding = 0x5152; value = 0x61 ∷ 0x62 ∷ [] })
-unfolding isText all
+unfolding isText allOf
 entry-well =
     record {
       key-text = is-text (75 ∷ []) refl;
@@ -75,7 +75,7 @@ metadata-13 New = (omega arith, omega arith, omega arith)
 metadata-13 Old = omega arith
 
 probe-well : (l : Layout) → WellFormed l probeMessage
-unfolding encodeMetadata entryHeader entryData WellMetadata tree.WellFormed tree.encode encodeBody flat beBytes isText all
+unfolding encodeMetadata entryHeader entryData WellMetadata tree.WellFormed tree.encode encodeBody flat beBytes isText allOf
 probe-well l =
     record {
       type-fills = zero-fills 12 statusText (is-text statusText refl) (omega arith);
@@ -97,7 +97,7 @@ probe-well l =
     }
 
 point-well : (l : Layout) → WellFormed l pointMessage
-unfolding encodeMetadata entryHeader entryData WellMetadata tree.WellFormed tree.encode encodeBody wordBytes flat beBytes isText all
+unfolding encodeMetadata entryHeader entryData WellMetadata tree.WellFormed tree.encode encodeBody wordBytes flat beBytes isText allOf
 point-well l =
     record {
       type-fills = zero-fills 12 positionText (is-text positionText refl) (omega arith);
@@ -124,7 +124,7 @@ by-layout P n o New = n
 by-layout P n o Old = o
 
 pub samples : Samples
-unfolding encodeWith encodeHeader encodeBody encodeMetadata entryHeader entryData tree.encode wordBytes flat beBytes textBytes fieldBytes sized crcOf bits bitsOf bitAt run bitStep readOf numberOf stepOf frontFault bodyChecks bodyClean foundFault sizesFault sectionsFault crcFault versionFault wholeFault placesOf bodyFault extendedOk contentFault contentClean kindOf transformFault positionFault wordsIn metadataFault sectionOk entriesOk entryOk indexIn headerOf shortFault textsFault limitFault headerFault beVal textOf pastText allZero textOk textClean fieldOk isText all same cleanBytes messageWritten messageOut writeFault writeChecks sectionsChecks fitFault fits namesFault writtenOf roomFault outAfter layoutOf
+unfolding encodeWith encodeHeader encodeBody encodeMetadata entryHeader entryData tree.encode wordBytes flat beBytes textBytes fieldBytes sized crcOf bits bitsOf bitAt run bitStep readOf numberOf stepOf frontFault bodyChecks bodyClean foundFault sizesFault sectionsFault crcFault versionFault wholeFault placesOf bodyFault extendedOk contentFault contentClean kindOf transformFault positionFault wordsIn metadataFault sectionOk entriesOk entryOk indexIn headerOf shortFault textsFault limitFault headerFault beVal textOf pastText allZero textOk textClean fieldOk isText allOf same cleanBytes messageWritten messageOut writeFault writeChecks sectionsChecks fitFault fits namesFault writtenOf roomFault outAfter layoutOf
 samples =
     record {
       numbers = refl;

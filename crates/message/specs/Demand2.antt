@@ -14,8 +14,8 @@ use Rattle.crc64.specs.Crc.{crcOf}
 use Rattle.message.specs.declared.Layout.{Layout}
 use Rattle.message.specs.declared.Answer.{Answer}
 use Rattle.message.specs.Message.{Message, WellFormed, Parts, messageBody, encode, RestsFill, cleaned, Clean, handedOut}
-use Rattle.message.specs.Check.{readOf, typeIn, nameIn, furtherIn, contentIn, metadataIn, handed}
-use Rattle.message.specs.Writer.{given, messageWritten, messageOut}
+use Rattle.message.specs.MessageReader.{readOf, typeIn, nameIn, furtherIn, contentIn, metadataIn, handed}
+use Rattle.message.specs.MessageWriter.{given, messageWritten, messageOut}
 
 -- the bytes of the message m are the front of the stream s
 pub record Begins (l : Layout) (s : List ℕ) (m : Message) : Type 0 where

@@ -11,7 +11,7 @@ use Rattle.crc64.specs.Crc.{crcOf}
 use Rattle.message.specs.declared.Layout.{Layout}
 use Rattle.message.specs.declared.Layout.the-variants.{New, Old}
 use Rattle.message.specs.Body.{Sections, encodeBody}
-use Rattle.message.specs.Check.{refused, readOf, contentIn}
+use Rattle.message.specs.MessageReader.{refused, readOf, contentIn}
 
 -- a message of V 2 with this type, name, stamp and body, and the body's CRC
 abbrev pub ofVersion2 : List ℕ → List ℕ → ℕ → List ℕ → List ℕ

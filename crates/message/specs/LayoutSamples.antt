@@ -1,4 +1,4 @@
--- Bodies of V 2 and metadata sections, byte by byte, in both layouts (rules 3.6, 5.1 and 5.9). They fix where the numbers of the extended header
+-- BodyTheorems of V 2 and metadata sections, byte by byte, in both layouts (rules 3.6, 5.1 and 5.9). They fix where the numbers of the extended header
 -- stand, which sizes agree with a section, the limits, and that 6 comes before 7 and 7 before 8.
 use Prim.Native.Nat.{ℕ}
 use mathlib.Core.Path.{_≡_}
@@ -14,8 +14,8 @@ use Rattle.message.specs.declared.Layout.{Layout}
 use Rattle.message.specs.declared.Layout.the-variants.{New, Old}
 use Rattle.message.specs.declared.Answer.{Answer}
 use Rattle.message.specs.Body.{encodeBody}
-use Rattle.message.specs.Check.{refused, readOf}
-use Rattle.message.specs.Writer.{given, fits, messageWritten}
+use Rattle.message.specs.MessageReader.{refused, readOf}
+use Rattle.message.specs.MessageWriter.{given, fits, messageWritten}
 use Rattle.message.specs.Samples.{answerOf, answerOf1, statusText, layouts, soundOf}
 
 -- ---- bodies, read

@@ -10,7 +10,7 @@ use Rattle.header.specs.Header.{Header, encodeHeader, limit}
 use Rattle.metadata.specs.Metadata.{Metadata, WellMetadata, encodeMetadata, indexSize}
 use Rattle.content.specs.Tree.{Content, typeText}
 use Rattle.content.specs.Tree as tree
-use Rattle.content.specs.Check.{deepest}
+use Rattle.content.specs.ContentCheck.{deepest}
 use Rattle.message.specs.declared.Layout.{Layout}
 use Rattle.message.specs.Body.{Sections, WellSections, encodeBody}
 

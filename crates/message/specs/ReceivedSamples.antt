@@ -17,8 +17,8 @@ use Rattle.message.specs.declared.Layout.the-variants.{New, Old}
 use Rattle.message.specs.declared.Answer.{Answer}
 use Rattle.message.specs.declared.FixedFields.{FixedFields}
 use Rattle.message.specs.Message.{Message, WellFormed, encode, cleaned}
-use Rattle.message.specs.Check.{refused, readOf, typeIn, nameIn, contentIn}
-use Rattle.message.specs.Writer.{given, messageWritten, messageOut}
+use Rattle.message.specs.MessageReader.{refused, readOf, typeIn, nameIn, contentIn}
+use Rattle.message.specs.MessageWriter.{given, messageWritten, messageOut}
 use Rattle.message.specs.Samples.{armText, answerOf, answerOf1, probeMetadata}
 
 -- the same answer, of a message that is not clean

@@ -19,11 +19,11 @@ use Rattle.message.specs.declared.Layout.{Layout}
 use Rattle.message.specs.declared.Layout.the-variants.{New, Old}
 use Rattle.message.specs.declared.Answer.{Answer}
 use Rattle.message.specs.declared.FixedFields.{FixedFields}
-use Rattle.message.specs.Layouts.{layoutOf}
+use Rattle.message.specs.LayoutNumber.{layoutOf}
 use Rattle.message.specs.Body.{Sections}
 use Rattle.message.specs.Message.{Message, WellFormed, encode}
-use Rattle.message.specs.Check.{sectionsFault, refused, readOf, typeIn, nameIn, furtherIn, contentIn, metadataIn}
-use Rattle.message.specs.Writer.{given, messageWritten, messageOut}
+use Rattle.message.specs.MessageReader.{sectionsFault, refused, readOf, typeIn, nameIn, furtherIn, contentIn, metadataIn}
+use Rattle.message.specs.MessageWriter.{given, messageWritten, messageOut}
 
 -- ---- V 1: a TRANSFORM from the device "Arm"
 

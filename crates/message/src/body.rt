@@ -10,12 +10,12 @@ ghost use lib.ListN.{length};
 ghost use lib.Seq.{sets};
 ghost use Rattle.fields.specs.Layout.{join};
 ghost use Rattle.message.specs.Body.{extendedFields, encodeBody, MetadataFits};
-ghost use Rattle.message.specs.Check.{extendedOk, bodyFault, sizesFault, placesOf};
-ghost use Rattle.message.specs.Writer.{sectionsGiven, bodyLength, fits};
-ghost use Rattle.metadata.specs.Check.{indexIn};
+ghost use Rattle.message.specs.MessageReader.{extendedOk, bodyFault, sizesFault, placesOf};
+ghost use Rattle.message.specs.MessageWriter.{sectionsGiven, bodyLength, fits};
+ghost use Rattle.metadata.specs.MetadataCheck.{indexIn};
 ghost use Rattle.header.specs.Header.{limit};
-ghost use Rattle.content.specs.Check.{deepest};
-ghost use Rattle.cleaning.specs.Clean.{cleanBytes};
+ghost use Rattle.content.specs.ContentCheck.{deepest};
+ghost use Rattle.cleaning.specs.CleanBytes.{cleanBytes};
 ghost use lib.Dec.{leb};
 
 // MSG_ID, and where the sections stand in the body.
@@ -49,7 +49,7 @@ fn is_extended(layout: Layout, body: &[u8]) -> bool
 }
 
 // Check 6 of a body: 6, or 0 for none.
-pub(crate) fn body_number(layout: Layout, version: u16, body: &[u8]) -> u8
+pub(crate) fn body_fault(layout: Layout, version: u16, body: &[u8]) -> u8
     ensures { λ r. ⌜ r ≡ bodyFault layout version (now (body .entry)) ⌝ }
 {
     if version != 2 {
@@ -62,13 +62,13 @@ pub(crate) fn body_number(layout: Layout, version: u16, body: &[u8]) -> u8
 }
 
 // The number for metadata sizes that disagree with the section: 7, or 0 for none.
-pub(crate) fn sizes_number(layout: Layout, version: u16, body: &[u8], section: &[u8]) -> u8
+pub(crate) fn sizes_fault(layout: Layout, version: u16, body: &[u8], section: &[u8]) -> u8
     ensures { λ r. ⌜ r ≡ sizesFault layout version (now (body .entry)) (now (section .entry)) ⌝ }
 {
     if version != 2 {
         return 0;
     }
-    extended::index_number(layout, body, section)
+    extended::index_fault(layout, body, section)
 }
 
 // Where the sections of a body without fault stand.

@@ -5,8 +5,8 @@ use fields::number::be16;
 use fields::number::be32;
 ghost use mathlib.Core.Path.{_≡_};
 ghost use Rattle.message.specs.Body.{extendedNumbers, MetadataFits};
-ghost use Rattle.message.specs.Check.{sectionSize, idAt, reservedOk, indexFault};
-ghost use Rattle.message.specs.Writer.{sizeFits};
+ghost use Rattle.message.specs.MessageReader.{sectionSize, idAt, reservedOk, indexFault};
+ghost use Rattle.message.specs.MessageWriter.{sizeFits};
 
 // The numbers after EXT_HEADER_SIZE, which have two, four and four bytes.
 pub struct ExtendedNumbers {
@@ -46,7 +46,7 @@ pub(crate) fn reserved_ok(layout: Layout, body: &[u8]) -> bool
 }
 
 // 7 where there is a METADATA_HEADER_SIZE and it is not the section's, or 0.
-pub(crate) fn index_number(layout: Layout, body: &[u8], section: &[u8]) -> u8
+pub(crate) fn index_fault(layout: Layout, body: &[u8], section: &[u8]) -> u8
     ensures { λ r. ⌜ r ≡ indexFault layout (now (body .entry)) (now (section .entry)) ⌝ }
 {
     match layout {

@@ -11,12 +11,12 @@ ghost use mathlib.Core.List.{_++_};
 ghost use lib.ListN.{length, drop};
 ghost use Rattle.fields.specs.Checks.{orElse};
 ghost use Rattle.header.specs.Header.{limit};
-ghost use Rattle.metadata.specs.Check.{metadataFault};
+ghost use Rattle.metadata.specs.MetadataCheck.{metadataFault};
 ghost use Rattle.fields.specs.Answer.{checked};
-ghost use Rattle.content.specs.Check.{contentFault, contentClean, deepest};
-ghost use Rattle.message.specs.Layouts.{layoutOf};
-ghost use Rattle.message.specs.Check.{versionFault, bodyFault, bodyChecked, placesOf, refused, accepted, readOf, typeIn, nameIn, furtherIn, contentIn, metadataIn};
-ghost use Rattle.message.specs.Writer.{given, cleanParts, bodyGiven, encodeParts, sectionsGiven, sectionsChecks, writeChecks, messageWritten, messageOut};
+ghost use Rattle.content.specs.ContentCheck.{contentFault, contentClean, deepest};
+ghost use Rattle.message.specs.LayoutNumber.{layoutOf};
+ghost use Rattle.message.specs.MessageReader.{versionFault, bodyFault, bodyChecked, placesOf, refused, accepted, readOf, typeIn, nameIn, furtherIn, contentIn, metadataIn};
+ghost use Rattle.message.specs.MessageWriter.{given, cleanParts, bodyGiven, encodeParts, sectionsGiven, sectionsChecks, writeChecks, messageWritten, messageOut};
 
 // The two layouts of the extended header (rule 3.6). Whoever reads or writes names one.
 pub enum Layout {
@@ -86,7 +86,7 @@ pub fn refusal(number: u8, step: usize) -> Answer
 }
 
 // Check 4.
-fn version_number(version: u16) -> u8
+fn version_fault(version: u16) -> u8
     ensures { λ r. ⌜ r ≡ versionFault version ⌝ }
 {
     if version == 1 {
@@ -102,7 +102,7 @@ fn version_number(version: u16) -> u8
 fn contents_check(type_text: &[u8], content: &[u8], metadata: &[u8]) -> Checked
     ensures { λ r. ⌜ r ≡ checked (orElse (metadataFault (now (metadata .entry))) (contentFault deepest (now («type_text» .entry)) (now (content .entry)))) (contentClean deepest (now («type_text» .entry)) (now (content .entry))) ⌝ }
 {
-    let fault = metadata::metadata_number(metadata);
+    let fault = metadata::metadata_fault(metadata);
     if fault != 0 {
         return marked(fault, false);
     }
@@ -110,7 +110,7 @@ fn contents_check(type_text: &[u8], content: &[u8], metadata: &[u8]) -> Checked
 }
 
 // The number alone.
-fn contents_number(type_text: &[u8], content: &[u8], metadata: &[u8]) -> u8
+fn contents_fault(type_text: &[u8], content: &[u8], metadata: &[u8]) -> u8
     ensures { λ r. ⌜ r ≡ orElse (metadataFault (now (metadata .entry))) (contentFault deepest (now («type_text» .entry)) (now (content .entry))) ⌝ }
 {
     let answer = contents_check(type_text, content, metadata);
@@ -121,20 +121,20 @@ fn contents_number(type_text: &[u8], content: &[u8], metadata: &[u8]) -> u8
 fn body_checks(layout: Layout, version: u16, crc: u64, type_text: &[u8], body: &[u8]) -> Checked
     ensures { λ r. ⌜ r ≡ bodyChecked layout version crc (now («type_text» .entry)) (now (body .entry)) ⌝ }
 {
-    let fault = version_number(version);
+    let fault = version_fault(version);
     if fault != 0 {
         return marked(fault, false);
     }
     if crc64::crc64(body) != crc {
         return marked(5, false);
     }
-    let fault = body::body_number(layout, version, body);
+    let fault = body::body_fault(layout, version, body);
     if fault != 0 {
         return marked(fault, false);
     }
     let places = body::sections(layout, version, body);
     let metadata = fields::slice::part(body, places.metadata_at, places.metadata_len);
-    let fault = body::sizes_number(layout, version, body, metadata);
+    let fault = body::sizes_fault(layout, version, body, metadata);
     if fault != 0 {
         return marked(fault, false);
     }
@@ -248,7 +248,7 @@ fn sections_checks(
 ) -> u8
     ensures { λ r. ⌜ r ≡ sectionsChecks layout (fixed .version) (now («type_text» .entry)) (sectionsGiven (fixed .id) (now (further .entry)) (now (content .entry)) (now (metadata .entry))) ⌝ }
 {
-    let fault = version_number(fixed.version);
+    let fault = version_fault(fixed.version);
     if fault != 0 {
         return fault;
     }
@@ -263,7 +263,7 @@ fn sections_checks(
     ) {
         return 6;
     }
-    contents_number(type_text, content, metadata)
+    contents_fault(type_text, content, metadata)
 }
 
 // All checks of a writer but that of the room.
@@ -278,7 +278,7 @@ fn write_checks(
 ) -> u8
     ensures { λ r. ⌜ r ≡ writeChecks layout (given fixed (now («type_text» .entry)) (now («device_name» .entry)) (now (further .entry)) (now (content .entry)) (now (metadata .entry))) ⌝ }
 {
-    let fault = header::names_number(type_text, device_name);
+    let fault = header::names_fault(type_text, device_name);
     if fault != 0 {
         return fault;
     }

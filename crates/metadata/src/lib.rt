@@ -1,12 +1,12 @@
 // Metadata sections (rules 3.8 to 3.11): the check, and the look-up of a value by its key. A look-up checks the section once, and answers
 // its fault before its own. A section of 0 bytes is no section: it is accepted and has no key. A value that is handed back lies in the
 // lent section; an empty value looks like a refusal there, so ask the number first.
-mod parts;
-mod walk;
+mod entry_walk;
+mod section_parts;
 
 ghost use mathlib.Core.Path.{_≡_};
-ghost use Rattle.metadata.specs.Check.{indexIn, sectionOk, metadataFault};
-ghost use Rattle.metadata.specs.Lookup.{refused, valuePlace, valueOf};
+ghost use Rattle.metadata.specs.MetadataCheck.{indexIn, sectionOk, metadataFault};
+ghost use Rattle.metadata.specs.ValueLookup.{refused, valuePlace, valueOf};
 
 // The number (rule 5.1), the value's VALUE_ENCODING, and where the value stands in the section and how long it is: all 0 besides the
 // number where refused.
@@ -36,11 +36,15 @@ fn section_ok(section: &[u8]) -> bool
     if section.len() < 2 {
         return false;
     }
-    let n = parts::count(section);
+    let n = section_parts::index_count(section);
     if section.len() < 2 + 8 * n {
         return false;
     }
-    walk::entries_ok(parts::headers_of(section), parts::data_of(section), n)
+    entry_walk::entries_ok(
+        section_parts::headers_of(section),
+        section_parts::data_of(section),
+        n,
+    )
 }
 
 // The bytes that INDEX_COUNT and the entries' headers take, by INDEX_COUNT; 0 for no section. Nothing is checked here.
@@ -50,11 +54,11 @@ pub fn index_size(section: &[u8]) -> usize
     if section.len() == 0 {
         return 0;
     }
-    2 + 8 * parts::count(section)
+    2 + 8 * section_parts::index_count(section)
 }
 
 // 7 where the section breaks its rule, or 0.
-pub fn metadata_number(section: &[u8]) -> u8
+pub fn metadata_fault(section: &[u8]) -> u8
     ensures { λ r. ⌜ r ≡ metadataFault (now (section .entry)) ⌝ }
 {
     if section.len() == 0 {
@@ -67,15 +71,15 @@ pub fn metadata_number(section: &[u8]) -> u8
 pub fn value_place(section: &[u8], key: &[u8]) -> ValuePlace
     ensures { λ r. ⌜ r ≡ valuePlace (now (section .entry)) (now (key .entry)) ⌝ }
 {
-    let fault = metadata_number(section);
+    let fault = metadata_fault(section);
     if fault != 0 {
         return refused(fault);
     }
-    walk::search(section, key)
+    entry_walk::search(section, key)
 }
 
 // The number of the look-up by itself.
-pub fn value_number(section: &[u8], key: &[u8]) -> u8
+pub fn value_fault(section: &[u8], key: &[u8]) -> u8
     ensures { λ r. ⌜ r ≡ valuePlace (now (section .entry)) (now (key .entry)) .number ⌝ }
 {
     let p = value_place(section, key);

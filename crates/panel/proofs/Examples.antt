@@ -8,7 +8,7 @@ use native.Mathlib.Omega.{arith}
 use lib.Dec.{eqb, eqb·suc-zero}
 use lib.ListN.{replicate}
 use Rattle.fields.specs.Bytes.{same, sized}
-use Rattle.fields.specs.Lists.{all, any, flat}
+use Rattle.fields.specs.Lists.{allOf, anyOf, flat}
 use Rattle.fields.specs.Numbers.{beBytes}
 use Rattle.fields.specs.Text.{isText}
 use Rattle.fields.specs.Checks.{orElse}
@@ -16,12 +16,12 @@ use Rattle.content.specs.Kinds.{transformText, positionText}
 use Rattle.fields.proofs.Laws.Checks.{else-zero}
 use Rattle.pose.specs.Words.{wordBytes}
 use Rattle.content.specs.Tree as tree
-use Rattle.content.specs.Check.{deepest}
+use Rattle.content.specs.ContentCheck.{deepest}
 use Rattle.message.specs.declared.Layout.{Layout}
 use Rattle.message.specs.declared.Layout.the-variants.{New, Old}
 use Rattle.message.specs.Message.{Message, encode}
-use Rattle.message.specs.Check.{readOf}
-use Rattle.message.specs.Check as read
+use Rattle.message.specs.MessageReader.{readOf}
+use Rattle.message.specs.MessageReader as read
 use Rattle.message.specs.Demand2.{Begins}
 use Rattle.message.specs.declared.Answer.{Answer as Read}
 use Rattle.message.specs.Samples.{armText, armMessage, armBytes, armAnswer, armContent, zeroBytes, zeroAnswer, positionBytes, positionAnswer, pointBytes, pointAnswer, otherThan}
@@ -32,8 +32,8 @@ use Rattle.message.proofs.Laws.Messages.{demand-2}
 use Rattle.history.specs.Calls.{add, linkUp, linkDown, message, look, green, grey, Answer, refused, accepted, empty, shown}
 use Rattle.history.specs.Summary.{Summary, isAllowed, allowedFault, clockFault, numberOn}
 use Rattle.history.specs.History.{valueFor, Shown}
-use Rattle.history.specs.Books.{armBytesCalls, damagedBytes}
-use Rattle.history.proofs.Books.{books}
+use Rattle.history.specs.BookTheorems.{armBytesCalls, damagedBytes}
+use Rattle.history.proofs.BookTheorems.{book-theorems}
 use Rattle.panel.specs.declared.Label.{Label}
 use Rattle.panel.specs.declared.Value.{Value}
 use Rattle.panel.specs.declared.LookAnswer.{LookAnswer}
@@ -45,7 +45,7 @@ use Rattle.panel.specs.Calls.{labelIn, addFault, addOf, linkOf, readFaul
 use Rattle.panel.specs.Demand3.{answerTo, panelNext, panelAfter}
 use Rattle.panel.specs.Examples.{FromArm, armTile, armLinked, pointLinked, PointShown, threeTiles, oneCounted, twoCounted, twoTiles, bothCounted, oneName, shortTile, sixteenTiles, lastCounted, addedLate, lateCalls, ArmLook, armValue, zeroValue, Examples}
 use Rattle.panel.proofs.Laws.Calls.{message-accepted, read-whole}
-use Rattle.history.proofs.Laws.Readings.{begins-one, one-step}
+use Rattle.history.proofs.Laws.ReaderTheorems.{begins-one, one-step}
 use Rattle.panel.proofs.Laws.Contents.{bytesOf, pose-short, value-bytes}
 use Rattle.panel.proofs.Laws.Checked.{begun-label, begun-value}
 use Rattle.panel.proofs.Laws.Demand3.{demand-3}
@@ -65,7 +65,7 @@ countedPanel p t v = record { tiles = map (countedFor arm t v) (p .tiles); link 
 record Counts (p : Panel) (t : ℕ) : Type 0 where
   in-time : clockFault (p .link .clock) t ≡ 0
   is-up : p .link .up ≡ true
-  has-arm : any (isTile arm) (p .tiles) ≡ true
+  has-arm : anyOf (isTile arm) (p .tiles) ≡ true
 
 -- a message in the layout of the panel's link
 module _ (p : Panel) (m : Message) (f : FromArm (p .link .layout) m) where
@@ -87,7 +87,7 @@ module _ (p : Panel) (m : Message) (f : FromArm (p .link .layout) m) where
     read-fault =
         read-whole (p .tiles) bytes (readOn (p .link) bytes) (demand-2 (p .link .layout) .begun bytes m front)
         (omega (arith, one-step (p .link .layout) bytes m (f .well) refl))
-        ∙ ap (λ (k : Label). cond (any (isTile k) (p .tiles)) 0 13) label-is
+        ∙ ap (λ (k : Label). cond (anyOf (isTile k) (p .tiles)) 0 13) label-is
         ∙ ap (λ (b : Bool). cond b 0 13) (c .has-arm)
 
     message-fault : messageFault p t bytes ≡ 0
@@ -113,7 +113,7 @@ module _ (p : Panel) (m : Message) (f : FromArm (p .link .layout) m) where
 
 -- it counts after the first two calls
 linked-counts : (l : Layout) → Counts (linkedPanel l) 1200
-unfolding panelAfter addOf addFault linkOf allowedFault isAllowed clockFault same sized any isText all
+unfolding panelAfter addOf addFault linkOf allowedFault isAllowed clockFault same sized anyOf isText allOf
 linked-counts l = record { in-time = refl; is-up = refl; has-arm = refl }
 
 -- ---- the message from Arm that is given byte by byte
@@ -134,7 +134,7 @@ arm-panel =
     let p = linkedPanel New in
     ap (λ (s : List ℕ). panelNext p (message 1200 s)) (sym (samples .arm (p .link .layout) .bytes))
     ∙ counted-panel p armMessage (arm-from (p .link .layout)) 1200 (linked-counts New)
-    ∙ ap (λ (c : List ℕ). countedPanel p 1200 (valueOf c)) (books .value)
+    ∙ ap (λ (c : List ℕ). countedPanel p 1200 (valueOf c)) (book-theorems .value)
 
 arm-look : (i now : ℕ) (a : LookAnswer) (v : Value)
     → (let p = countedPanel (linkedPanel New) 1200 (valueOf armContent) in lookOf p i now ≡ record { panel = p; answer = a; value = v })
@@ -193,7 +193,7 @@ abbrev bothPanel : Panel
 bothPanel = messageRead firstPanel 1300 (pointBytes New) pointAnswer .panel
 
 first-layout : firstPanel .link .layout ≡ New
-unfolding panelAfter addOf addFault linkOf readFault allowedFault isAllowed clockFault same sized any isText all
+unfolding panelAfter addOf addFault linkOf readFault allowedFault isAllowed clockFault same sized anyOf isText allOf
 first-layout = refl
 
 both-panel : panelAfter bothCounted ≡ bothPanel
@@ -237,19 +237,19 @@ then-point l p e = ap (λ (r : CallResult). answerTo (r .panel) (look 0 20)) (po
 
 -- a message on a link that is down is not read
 down-sent : answerTo (panelAfter (add transformText armText 500 ∷ message 1500 armBytes ∷ [])) (look 0 0) ≡ empty
-unfolding panelAfter addOf addFault messageOf messageFault allowedFault isAllowed clockFault lookOf lookFault same sized any isText all
+unfolding panelAfter addOf addFault messageOf messageFault allowedFault isAllowed clockFault lookOf lookFault same sized anyOf isText allOf
 down-sent = refl
 
 down-number : messageOf (panelAfter (add transformText armText 500 ∷ [])) 1200 armBytes .number ≡ 14
-unfolding panelAfter addOf addFault messageOf messageFault allowedFault isAllowed clockFault same sized any isText all
+unfolding panelAfter addOf addFault messageOf messageFault allowedFault isAllowed clockFault same sized anyOf isText allOf
 down-number = refl
 
 down-point : (l : Layout) → messageOf (panelAfter (pointLinked l ++ (linkDown 11 ∷ []))) 20 (pointBytes l) .number ≡ 14
-unfolding panelAfter addOf addFault linkOf messageOf messageFault allowedFault isAllowed clockFault same sized any isText all
+unfolding panelAfter addOf addFault linkOf messageOf messageFault allowedFault isAllowed clockFault same sized anyOf isText allOf
 down-point l = refl
 
 pub examples : Examples
-unfolding panelAfter addOf addFault linkOf readFault allowedFault isAllowed clockFault lookOf lookFault same sized any isText all
+unfolding panelAfter addOf addFault linkOf readFault allowedFault isAllowed clockFault lookOf lookFault same sized anyOf isText allOf
 examples =
     record {
       p10 = λ l m f. shown-after (linkedPanel l) m f 1200 (linked-counts l) (λ p. p) 0 1700 (shown green 500) refl;
@@ -373,6 +373,6 @@ examples =
       -- the look is not refused by the book, so it shows what the history says
       arm-shown = λ R.
           subst (Shown R armBytesCalls 0 1700) (ap (λ (p : Panel). answerTo p (look 0 1700)) arm-panel)
-          (demand-3 .claim R armBytesCalls (tt, (tt, (books .calls .1 .1 .0, tt))) .after 0 1700 .acceptance
-          (ap (λ (b : Summary). numberOn R b (look 0 1700)) (books .on-books R .arm)));
+          (demand-3 .claim R armBytesCalls (tt, (tt, (book-theorems .calls .1 .1 .0, tt))) .after 0 1700 .acceptance
+          (ap (λ (b : Summary). numberOn R b (look 0 1700)) (book-theorems .on-books R .arm)));
     }

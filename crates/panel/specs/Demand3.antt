@@ -6,7 +6,7 @@ use mathlib.Core.List.{List, foldl}
 use lib.ListN.{length, take}
 use Rattle.fields.specs.Lists.{Each}
 use Rattle.history.specs.Calls.{Call, add, linkUp, linkDown, message, look, OfBytes, Answer, Padded, answerNumber}
-use Rattle.history.specs.Reading.{Reader, Readers}
+use Rattle.history.specs.Reading.{Reader, ReaderTheorems}
 use Rattle.history.specs.History.{callAt, IsColoured, Answers}
 use Rattle.history.specs.Words.{Words}
 use Rattle.panel.specs.declared.Panel.{Panel}
@@ -42,7 +42,7 @@ pub record Claim (R : Reader) (cs : List Call) : Type 0 where
 
 pub record Demand3 : Type 0 where
   -- with any reader (rule 1.4); there is one, and any two agree on all bytes; bytes are read as one message exactly where they are its encoding
-  pub readers : Readers
+  pub readers : ReaderTheorems
   -- the book and the history leave at most one answer to each call; a tile's messages stand after its adding; the layout of the
   -- link is the one named last; tiles are numbered in order
   pub words : Words

@@ -1,4 +1,4 @@
--- Contents given byte by byte, and the words in them: the order of the words is fixed here, the lengths, and what a refusal hands out.
+-- ContentTheorems given byte by byte, and the words in them: the order of the words is fixed here, the lengths, and what a refusal hands out.
 use Prim.Native.Nat.{ℕ}
 use mathlib.Core.Path.{_≡_}
 use mathlib.Core.List.{List, [], _∷_, _++_, map}

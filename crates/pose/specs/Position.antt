@@ -77,7 +77,7 @@ positionOut ws out = outAfter (positionChecks ws (length out)) (wordBytes ws) ou
 
 -- ---- what is proved of them
 
-pub record Positions : Type 0 where
+pub record PositionTheorems : Type 0 where
   -- bytes are accepted exactly when they are those of some well formed words, and of only one such list; else they are 8
   pub accepted : (c : List ℕ) → Bytes c → positionFault c ≡ 0 → IsPosition c
   pub refused : (c : List ℕ) → Bytes c → (IsPosition c → ⊥) → positionFault c ≡ 8

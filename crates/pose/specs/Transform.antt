@@ -74,7 +74,7 @@ pub record Columns (t : Transform) : Type 0 where
   pub column3 : ThreeWords (t .column3)
   pub translation : ThreeWords (t .translation)
 
-pub record Transforms : Type 0 where
+pub record TransformTheorems : Type 0 where
   -- bytes are accepted exactly when they are those of some well formed words, and of only one such list; else they are 8
   pub accepted : (c : List ℕ) → Bytes c → transformFault c ≡ 0 → IsTransform c
   pub refused : (c : List ℕ) → Bytes c → (IsTransform c → ⊥) → transformFault c ≡ 8

@@ -44,7 +44,7 @@ fn three(content: &[u8], a: usize, b: usize, c: usize) -> [u32; 3]
 }
 
 // 8 where it has another length than 48.
-pub fn transform_number(content: &[u8]) -> u8
+pub fn transform_fault(content: &[u8]) -> u8
     ensures { λ r. ⌜ r ≡ transformFault (now (content .entry)) ⌝ }
 {
     if content.len() == 48 { 0 } else { 8 }
@@ -54,7 +54,7 @@ pub fn transform_number(content: &[u8]) -> u8
 pub fn read_transform(content: &[u8]) -> TransformRead
     ensures { λ r. ⌜ r ≡ transformOf (now (content .entry)) ⌝ }
 {
-    let number = transform_number(content);
+    let number = transform_fault(content);
     if number != 0 {
         let zeros = [0u32; 3];
         let none = Transform {
@@ -152,7 +152,7 @@ fn words_in(n: usize) -> usize
 }
 
 // 8 where it has another length than 12, 24 and 28.
-pub fn position_number(content: &[u8]) -> u8
+pub fn position_fault(content: &[u8]) -> u8
     ensures { λ r. ⌜ r ≡ positionFault (now (content .entry)) ⌝ }
 {
     if words_in(content.len()) == 0 { 8 } else { 0 }
@@ -162,7 +162,7 @@ pub fn position_number(content: &[u8]) -> u8
 pub fn read_position(content: &[u8]) -> PositionRead
     ensures { λ r. ⌜ r ≡ positionOf (now (content .entry)) ⌝ }
 {
-    let number = position_number(content);
+    let number = position_fault(content);
     if number != 0 {
         return PositionRead {
             number,

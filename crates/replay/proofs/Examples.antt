@@ -5,10 +5,10 @@ use mathlib.Core.Bool.{cond}
 use mathlib.Core.List.{[], _∷_, _++_}
 use lib.Dec.{eqb}
 use Rattle.fields.specs.Bytes.{same, sized}
-use Rattle.fields.specs.Lists.{all, any}
+use Rattle.fields.specs.Lists.{allOf, anyOf}
 use Rattle.fields.specs.Numbers.{beVal}
 use Rattle.fields.specs.Text.{isText}
-use Rattle.message.specs.Layouts.{layoutOf}
+use Rattle.message.specs.LayoutNumber.{layoutOf}
 use Rattle.history.specs.Calls.{look}
 use Rattle.history.specs.Summary.{isAllowed, allowedFault, clockFault}
 use Rattle.panel.specs.declared.Panel.{Panel}
@@ -17,7 +17,7 @@ use Rattle.panel.specs.declared.LookAnswer.{LookAnswer}
 use Rattle.panel.specs.declared.LookResult.{LookResult}
 use Rattle.panel.specs.Calls.{addOf, addFault, linkOf, lookOf}
 use Rattle.panel.specs.Demand3.{panelNext, panelAfter}
-use Rattle.history.specs.Books.{armBytesCalls}
+use Rattle.history.specs.BookTheorems.{armBytesCalls}
 use Rattle.panel.specs.Examples.{ArmLook, armValue, zeroValue}
 use Rattle.panel.proofs.Laws.Demand3.{demand-3}
 use Rattle.panel.proofs.Examples as panel
@@ -45,7 +45,7 @@ looked : (i now : ℕ) (a : LookAnswer) (v : Value) → ArmLook i now a v
 looked i now a v e = ap (λ (r : LookResult). afterLook r .answered) e
 
 pub examples : Examples
-unfolding callsIn callsWithin callOf layoutOf beVal answerAt answerAmong performed lookAfter panelAfter addOf addFault linkOf allowedFault isAllowed clockFault same sized any isText all
+unfolding callsIn callsWithin callOf layoutOf beVal answerAt answerAmong performed lookAfter panelAfter addOf addFault linkOf allowedFault isAllowed clockFault same sized anyOf isText allOf
 examples =
     record {
       five = refl;

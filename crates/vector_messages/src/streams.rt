@@ -6,7 +6,7 @@ use message::Layout;
 use vector_records::print_number;
 ghost use mathlib.Core.Path.{_≡_};
 ghost use lib.ListN.{drop};
-ghost use Rattle.message.specs.Check.{readOf};
+ghost use Rattle.message.specs.MessageReader.{readOf};
 
 fn print_answer(at: usize, answer: Answer) {
     print_number(at as u64);

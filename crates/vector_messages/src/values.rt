@@ -6,8 +6,8 @@ use vector_records::print_number;
 
 pub fn print_value(section: &[u8], key: &[u8]) {
     let place = metadata::value_place(section, key);
-    print_number(metadata::metadata_number(section) as u64);
-    print_number(metadata::value_number(section, key) as u64);
+    print_number(metadata::metadata_fault(section) as u64);
+    print_number(metadata::value_fault(section, key) as u64);
     print_number(metadata::value_encoding(section, key) as u64);
     print_number(place.at as u64);
     print_number(place.len as u64);

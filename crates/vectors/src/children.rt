@@ -6,9 +6,9 @@
 //   E site, default, name            the number and the bundle of the child of that name, and its place
 //
 // A count and a place are each a number, what it goes with, and the mark. The bytes of a child follow its place.
-use child::EitherPlace;
-use child::Place;
-use child::Source;
+use bind_lookup::EitherPlace;
+use bind_lookup::Place;
+use bind_lookup::Source;
 use vector_records::after_field;
 use vector_records::field;
 use vector_records::print_bytes;
@@ -31,22 +31,22 @@ fn print_source(source: Source) {
 }
 
 fn print_count(content: &[u8]) {
-    let count = child::child_count(content);
+    let count = bind_lookup::child_count(content);
     print_number(count.number as u64);
     print_number(count.count as u64);
     print_mark(count.clean);
 }
 
 fn print_child(content: &[u8], index: usize) {
-    print_bytes(child::child_type(content, index));
-    print_bytes(child::child_name(content, index));
-    print_place(child::child_place(content, index));
-    print_bytes(child::child(content, index));
+    print_bytes(bind_lookup::child_type(content, index));
+    print_bytes(bind_lookup::child_name(content, index));
+    print_place(bind_lookup::child_place(content, index));
+    print_bytes(bind_lookup::child(content, index));
 }
 
 fn print_named(content: &[u8], name: &[u8]) {
-    print_place(child::named_place(content, name));
-    print_bytes(child::named(content, name));
+    print_place(bind_lookup::named_place(content, name));
+    print_bytes(bind_lookup::named(content, name));
 }
 
 // What is looked up: an index of eight bytes, and a name.
@@ -64,10 +64,10 @@ pub fn print_patched(length: &[u8], patches: &[u8], wanted: &[u8]) {
 }
 
 pub fn print_either<'a>(site: &'a [u8], default: &'a [u8], name: &[u8]) {
-    print_number(child::either_number(site, default, name) as u64);
-    print_source(child::either_source(site, default, name));
-    print_either_place(child::either_place(site, default, name));
-    print_bytes(child::either(site, default, name));
+    print_number(bind_lookup::either_fault(site, default, name) as u64);
+    print_source(bind_lookup::either_source(site, default, name));
+    print_either_place(bind_lookup::either_place(site, default, name));
+    print_bytes(bind_lookup::either(site, default, name));
 }
 
 fn print_either_place(place: EitherPlace) {

@@ -38,14 +38,14 @@ fn print_columns(transform: Transform) {
 }
 
 pub fn print_transform(content: &[u8]) {
-    print_number(pose::transform_number(content) as u64);
+    print_number(pose::transform_fault(content) as u64);
     let read = pose::read_transform(content);
     print_number(read.number as u64);
     print_columns(read.transform);
 }
 
 pub fn print_position(content: &[u8]) {
-    print_number(pose::position_number(content) as u64);
+    print_number(pose::position_fault(content) as u64);
     let read = pose::read_position(content);
     print_number(read.number as u64);
     print_number(read.count as u64);
@@ -78,7 +78,7 @@ fn print_header(header: ImageHeader) {
 }
 
 pub fn print_image(content: &[u8]) {
-    print_number(image::image_number(content) as u64);
+    print_number(image::image_fault(content) as u64);
     let read = image::read_image(content);
     print_number(read.number as u64);
     print_header(read.header);
@@ -92,7 +92,7 @@ fn print_checked(checked: Checked) {
 
 pub fn print_numbers(type_text: &[u8], content: &[u8]) {
     print_checked(content::content_check(type_text, content));
-    print_number(content::nested_number(type_text, content) as u64);
+    print_number(content::nested_fault(type_text, content) as u64);
     print_checked(content::bind_check(content));
 }
 

@@ -9,18 +9,18 @@ use lib.ListN.{length, getD, take, drop, replicate, length-append}
 use lib.Seq.{sets, length-take-le}
 use Rattle.fields.specs.Numbers.{beBytes}
 use Rattle.fields.specs.Text.{isText, textBytes}
-use Rattle.fields.specs.Lists.{flat, all}
+use Rattle.fields.specs.Lists.{flat, allOf}
 use Rattle.fields.proofs.Laws.Lists.{all-step, all-stop, length-flat}
 use Rattle.fields.proofs.Laws.Numbers.{length-beBytes}
 use Rattle.fields.proofs.Laws.Text.{length-textBytes}
 use Rattle.fields.proofs.Laws.Stores.{sets-flat-next}
-use Rattle.bundle.specs.Children.{Child, padded}
-use Rattle.bundle.proofs.Laws.Children.{length-padded}
+use Rattle.bind_layout.specs.Children.{Child, padded}
+use Rattle.bind_layout.proofs.Laws.Children.{length-padded}
 use Rattle.cleaning.proofs.Laws.Lengths.{length-clean}
-use Rattle.content.specs.Contents.{firstFault}
+use Rattle.content.specs.ContentTheorems.{firstFault}
 use Rattle.content.proofs.Laws.Faults.{noChild, first-stop, first-next}
-use Rattle.bind_writer.specs.Lists.{children, typesOf, namesOf, contentsOf, SameCount}
-use Rattle.bind_writer.specs.Writer.{typeOk, textsOk, childFault, cleanContent, plainHeader, cleanData}
+use Rattle.bind_writer.specs.ChildLists.{children, typesOf, namesOf, contentsOf, SameCount}
+use Rattle.bind_writer.specs.BindWriter.{typeOk, textsOk, childFault, cleanContent, plainHeader, cleanData}
 use Rattle.bind_writer.proofs.Laws.Slices.{none, length-given, given-at}
 
 -- ---- the lists of the children that three lists give, and the children of their own lists
@@ -95,13 +95,13 @@ module _ (ts : List (RefT (List ℕ))) (i : ℕ) (h : i < length ts) (cs : List 
     texts-at r n a b = ap₂ (λ (x y : Bool). x && y) (ap typeOk type-at ∙ a) (ap isText name-at ∙ b)
 
     pub texts-next : typeOk (now (getD ts i none)) ≡ true → isText (now (getD ns i none)) ≡ true
-        → all textsOk (drop i cs) ≡ all textsOk (drop (i + 1) cs)
+        → allOf textsOk (drop i cs) ≡ allOf textsOk (drop (i + 1) cs)
     texts-next a b = all-step textsOk cs i noChild below (texts-at true true a b)
 
-    pub texts-type : typeOk (now (getD ts i none)) ≡ false → all textsOk (drop i cs) ≡ false
+    pub texts-type : typeOk (now (getD ts i none)) ≡ false → allOf textsOk (drop i cs) ≡ false
     texts-type a = all-stop textsOk cs i noChild below (texts-at false (isText (now (getD ns i none))) a refl)
 
-    pub texts-name : typeOk (now (getD ts i none)) ≡ true → isText (now (getD ns i none)) ≡ false → all textsOk (drop i cs) ≡ false
+    pub texts-name : typeOk (now (getD ts i none)) ≡ true → isText (now (getD ns i none)) ≡ false → allOf textsOk (drop i cs) ≡ false
     texts-name a b = all-stop textsOk cs i noChild below (texts-at true false a b)
 
   -- by types and contents

@@ -12,11 +12,11 @@ use Rattle.fields.proofs.Laws.Lists.{flat-map, flat-all}
 use Rattle.fields.proofs.Laws.Received.{fieldBytes-zeros}
 use Rattle.fields.proofs.Laws.Numbers.{length-beBytes}
 use Rattle.fields.proofs.Laws.Stores.{sets-append, stores-join}
-use Rattle.bundle.specs.Children.{Child, padded, childHeader, childName, childData, nameTable, encodeChildren, ended}
-use Rattle.bundle.proofs.Laws.Children.{length-padded}
-use Rattle.bundle.proofs.Laws.Written.{length-encode}
-use Rattle.bind_writer.specs.Lists.{children, namesOf, contentsOf, SameCount}
-use Rattle.bind_writer.specs.Writer.{cleanChild, written, plainHeader, cleanData}
+use Rattle.bind_layout.specs.Children.{Child, padded, childHeader, childName, childData, nameTable, encodeChildren, ended}
+use Rattle.bind_layout.proofs.Laws.Children.{length-padded}
+use Rattle.bind_layout.proofs.Laws.Written.{length-encode}
+use Rattle.bind_writer.specs.ChildLists.{children, namesOf, contentsOf, SameCount}
+use Rattle.bind_writer.specs.BindWriter.{cleanChild, written, plainHeader, cleanData}
 use Rattle.bind_writer.proofs.Laws.Children.{lists-of, length-plain, length-content, length-datas}
 
 names-flat : (cs : List Child) → flat childName cs ≡ flat ended (namesOf cs)

@@ -8,10 +8,10 @@ use lib.ListN.{length}
 use Rattle.fields.specs.Checks.{orElse}
 use Rattle.fields.proofs.Laws.Checks.{zero-else, else-first, else-second, cond-pass}
 use Rattle.fields.proofs.Laws.Answer.{room-fits}
-use Rattle.bundle.specs.Children.{encodeChildren}
-use Rattle.content.specs.Contents.{firstFault}
-use Rattle.bind_writer.specs.Lists.{children}
-use Rattle.bind_writer.specs.Writer.{listsOk, listsFault, childFault, spaceFault, writeFault}
+use Rattle.bind_layout.specs.Children.{encodeChildren}
+use Rattle.content.specs.ContentTheorems.{firstFault}
+use Rattle.bind_writer.specs.ChildLists.{children}
+use Rattle.bind_writer.specs.BindWriter.{listsOk, listsFault, childFault, spaceFault, writeFault}
 
 module _ (ts ns ds : List (List ℕ)) (room : ℕ) where
   abbrev ofChildren : ℕ

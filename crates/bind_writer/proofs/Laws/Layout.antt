@@ -6,16 +6,16 @@ use mathlib.Core.List.{List}
 use lib.Dec.{eqb}
 use lib.ListN.{length}
 use borrow.Author.Tests.{eqb-true, eq-eqb}
-use Rattle.fields.specs.Lists.{all}
+use Rattle.fields.specs.Lists.{allOf}
 use Rattle.fields.proofs.Laws.Checks.{and-split, and-join}
 use Rattle.fields.proofs.Laws.Tests.{is-false}
-use Rattle.bind_writer.specs.Lists.{children, SameCount}
-use Rattle.bind_writer.specs.Writer.{textsOk, countFits, tableFits, listsOk}
+use Rattle.bind_writer.specs.ChildLists.{children, SameCount}
+use Rattle.bind_writer.specs.BindWriter.{textsOk, countFits, tableFits, listsOk}
 
 pub record ListsPassed (ts ns ds : List (List ℕ)) : Type 0 where
   pub count : SameCount ts ns ds
   pub few : countFits ts ≡ true
-  pub texts : all textsOk (children ts ns ds) ≡ true
+  pub texts : allOf textsOk (children ts ns ds) ≡ true
   pub table : tableFits (children ts ns ds) ≡ true
 
 module _ (ts ns ds : List (List ℕ)) where
@@ -25,7 +25,7 @@ module _ (ts ns ds : List (List ℕ)) where
       let a = and-split (eqb (length ns) (length ts)) _ h in
       let b = and-split (eqb (length ds) (length ts)) _ (a .1) in
       let k = and-split (countFits ts) _ (b .1) in
-      let t = and-split (all textsOk (children ts ns ds)) _ (k .1) in
+      let t = and-split (allOf textsOk (children ts ns ds)) _ (k .1) in
       record {
         count = record { names = eqb-true (length ns) (length ts) (a .0); contents = eqb-true (length ds) (length ts) (b .0) };
         few = k .0;

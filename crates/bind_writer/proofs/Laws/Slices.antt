@@ -9,7 +9,7 @@ use lib.Seq.{sets}
 use Rattle.fields.specs.Lists.{flat}
 use Rattle.fields.proofs.Laws.Lists.{flat-all, length-flat-next, length-flat-le}
 use Rattle.fields.proofs.Laws.Stores.{sets-flat-next}
-use Rattle.bind_writer.specs.Lists.{SameCount}
+use Rattle.bind_writer.specs.ChildLists.{SameCount}
 
 -- what is read past the end of a slice of slices
 abbrev pub none : RefT (List ℕ)

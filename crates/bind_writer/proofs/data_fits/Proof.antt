@@ -9,9 +9,9 @@ use borrow.Author.Tests.{le-leb, lt-leb}
 use borrow.Author.Needs.{needs}
 use Rattle.fields.specs.Lists.{flat}
 use Rattle.fields.proofs.Laws.Lists.{flat-none}
-use Rattle.bundle.specs.Children.{padded}
+use Rattle.bind_layout.specs.Children.{padded}
 use Rattle.bind_writer.proofs.Laws.Slices.{none, slices-all, length-slices-next, length-slices-le}
-use Rattle.bundle.proofs.Laws.Children.{length-padded}
+use Rattle.bind_layout.proofs.Laws.Children.{length-padded}
 use Rattle.bind_writer.proofs.data_fits.Statement.{statement}
 use Rattle.bind_writer.proofs.data_fits.Tie as tie
 

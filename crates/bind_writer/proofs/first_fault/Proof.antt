@@ -6,9 +6,9 @@ use native.Mathlib.Omega.{arith}
 use denote.Ref.{now}
 use lib.ListN.{length, drop}
 use borrow.Author.Needs.{needs}
-use Rattle.content.specs.Contents.{firstFault}
-use Rattle.bind_writer.specs.Lists.{WithContents}
-use Rattle.bind_writer.specs.Writer.{childFault}
+use Rattle.content.specs.ContentTheorems.{firstFault}
+use Rattle.bind_writer.specs.ChildLists.{WithContents}
+use Rattle.bind_writer.specs.BindWriter.{childFault}
 use Rattle.bind_writer.proofs.Laws.Slices.{length-given}
 use Rattle.content.proofs.Laws.Faults.{first-end}
 use Rattle.bind_writer.proofs.Laws.Children.{faults-stop, faults-next}
@@ -37,14 +37,14 @@ mul-content c = search needs
 shared-slice-copy-out-content : tie.Need-shared-slice-copy-out-content Inv-loop μ-loop
 shared-slice-copy-out-content c = search needs
 
-child-number-requires : tie.Need-child-number-requires Inv-loop μ-loop
-child-number-requires c κs = search needs
+child-fault-requires : tie.Need-child-fault-requires Inv-loop μ-loop
+child-fault-requires c κs = search needs
 
 returns : tie.Need-returns Inv-loop μ-loop
 returns c =
     let a = c .before .before .before .before .before .before .args in
     let l = c .before .before .before .before .before .loop in
-    let n = c .before .child-number in
+    let n = c .before .child-fault in
     λ cs p q. sym (l .inv .1 cs p q ∙ faults-stop (a .types .now) (l .i) (omega arith) cs p (a .contents .now) q (n .result) (n .ensures) (c .if1 .taken))
 
 add-i : tie.Need-add-i Inv-loop μ-loop
@@ -57,7 +57,7 @@ loop-again : tie.Need-loop-again Inv-loop μ-loop
 loop-again c =
     let a = c .before .before .before .before .before .before .args in
     let l = c .before .before .before .before .before .loop in
-    let n = c .before .child-number in (
+    let n = c .before .child-fault in (
       omega arith,
       λ cs p q. l .inv .1 cs p q ∙ faults-next (a .types .now) (l .i) (omega arith) cs p (a .contents .now) q (n .result) (n .ensures) (c .if1 .left),
     )
@@ -78,7 +78,7 @@ first-fault-spec =
     shared-slice-copy-out-type-text
     mul-content
     shared-slice-copy-out-content
-    child-number-requires
+    child-fault-requires
     returns
     add-i
     loop-less

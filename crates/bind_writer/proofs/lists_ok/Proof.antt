@@ -7,8 +7,8 @@ use denote.Ref.{now}
 use lib.ListN.{length, length-map}
 use borrow.Author.Tests.{not-true, not-false, leb-true, le-leb}
 use borrow.Author.Needs.{needs}
-use Rattle.bundle.specs.Children.{nameTable}
-use Rattle.bind_writer.specs.Lists.{children}
+use Rattle.bind_layout.specs.Children.{nameTable}
+use Rattle.bind_writer.specs.ChildLists.{children}
 use Rattle.bind_writer.proofs.Laws.Slices.{same-count, count-same}
 use Rattle.bind_writer.proofs.Laws.Children.{lists-of}
 use Rattle.bind_writer.proofs.Laws.Layout.{lists-pass, lists-refused}

@@ -8,7 +8,7 @@ use lib.ListN.{length, take, getD}
 use borrow.Author.Needs.{needs}
 use Rattle.fields.specs.Lists.{flat}
 use Rattle.fields.proofs.Laws.Lists.{flat-none}
-use Rattle.bundle.specs.Children.{ended}
+use Rattle.bind_layout.specs.Children.{ended}
 use Rattle.bind_writer.proofs.Laws.Slices.{none, slices-all, length-slices-next, length-slices-le}
 use Rattle.bind_writer.proofs.Laws.Encoding.{length-ended}
 use Rattle.bind_writer.proofs.names_len.Statement.{statement}

@@ -10,9 +10,9 @@ use borrow.Author.Tests.{leb-true}
 use borrow.Author.Needs.{needs}
 use Rattle.fields.specs.Numbers.{beBytes}
 use Rattle.fields.specs.Lists.{flat}
-use Rattle.bundle.specs.Children.{padded, nameTable, ended}
-use Rattle.bind_writer.specs.Lists.{children}
-use Rattle.bind_writer.specs.Writer.{plainHeader, cleanData}
+use Rattle.bind_layout.specs.Children.{padded, nameTable, ended}
+use Rattle.bind_writer.specs.ChildLists.{children}
+use Rattle.bind_writer.specs.BindWriter.{plainHeader, cleanData}
 use Rattle.bind_writer.proofs.Laws.Slices.{count-same}
 use Rattle.bind_writer.proofs.Laws.Children.{lists-of}
 use Rattle.bind_writer.proofs.Laws.Layout.{lists-passed}

@@ -7,10 +7,10 @@ use lib.ListN.{length, replicate}
 use lib.Seq.{sets}
 use borrow.Author.Needs.{needs}
 use Rattle.fields.proofs.Laws.Stores.{sets-append}
-use Rattle.bundle.specs.Children.{padded}
-use Rattle.bundle.proofs.Laws.Children.{length-padded}
-use Rattle.cleaning.proofs.Laws.Walk.{put-left}
-use Rattle.bind_writer.specs.Writer.{cleanContent}
+use Rattle.bind_layout.specs.Children.{padded}
+use Rattle.bind_layout.proofs.Laws.Children.{length-padded}
+use Rattle.cleaning.proofs.Laws.CleaningWalk.{put-left}
+use Rattle.bind_writer.specs.BindWriter.{cleanContent}
 use Rattle.bind_writer.proofs.Laws.Children.{length-content}
 use Rattle.bind_writer.proofs.put_content.Statement.{statement}
 use Rattle.bind_writer.proofs.put_content.Tie as tie

@@ -9,9 +9,9 @@ use lib.Seq.{sets}
 use borrow.Author.Needs.{needs}
 use Rattle.fields.specs.Lists.{flat}
 use Rattle.fields.proofs.Laws.Lists.{flat-none, flat-all}
-use Rattle.bundle.specs.Children.{padded}
-use Rattle.bind_writer.specs.Lists.{WithContents}
-use Rattle.bind_writer.specs.Writer.{cleanContent, cleanData}
+use Rattle.bind_layout.specs.Children.{padded}
+use Rattle.bind_writer.specs.ChildLists.{WithContents}
+use Rattle.bind_writer.specs.BindWriter.{cleanContent, cleanData}
 use Rattle.bind_writer.proofs.Laws.Slices.{none, length-given, slices-all, length-slices-next, length-slices-le}
 use Rattle.bind_writer.proofs.Laws.Children.{datas-next}
 use Rattle.bind_writer.proofs.put_contents.Statement.{statement}

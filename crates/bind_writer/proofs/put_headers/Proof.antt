@@ -11,8 +11,8 @@ use Rattle.fields.specs.Numbers.{beBytes}
 use Rattle.fields.specs.Text.{textBytes}
 use Rattle.fields.specs.Lists.{flat}
 use Rattle.fields.proofs.Laws.Lists.{flat-none, flat-all}
-use Rattle.bind_writer.specs.Writer.{plainHeader}
-use Rattle.bind_writer.specs.Lists.{WithContents}
+use Rattle.bind_writer.specs.BindWriter.{plainHeader}
+use Rattle.bind_writer.specs.ChildLists.{WithContents}
 use Rattle.bind_writer.proofs.Laws.Slices.{none, length-given}
 use Rattle.bind_writer.proofs.Laws.Children.{headers-next}
 use Rattle.bind_writer.proofs.put_headers.Statement.{statement}

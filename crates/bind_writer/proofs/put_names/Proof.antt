@@ -9,7 +9,7 @@ use lib.Seq.{sets}
 use borrow.Author.Needs.{needs}
 use Rattle.fields.specs.Lists.{flat}
 use Rattle.fields.proofs.Laws.Lists.{flat-none}
-use Rattle.bundle.specs.Children.{ended}
+use Rattle.bind_layout.specs.Children.{ended}
 use Rattle.bind_writer.proofs.Laws.Slices.{none, slices-all, length-slices-next, length-slices-le, sets-slices-next}
 use Rattle.bind_writer.proofs.put_names.Statement.{statement}
 use Rattle.bind_writer.proofs.put_names.Tie as tie

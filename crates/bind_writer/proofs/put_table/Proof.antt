@@ -8,8 +8,8 @@ use lib.ListN.{length, replicate}
 use lib.Seq.{sets}
 use borrow.Author.Needs.{needs}
 use Rattle.fields.specs.Lists.{flat}
-use Rattle.bundle.specs.Children.{ended}
-use Rattle.bundle.proofs.Laws.Children.{length-padded}
+use Rattle.bind_layout.specs.Children.{ended}
+use Rattle.bind_layout.proofs.Laws.Children.{length-padded}
 use Rattle.bind_writer.proofs.Laws.Encoding.{table-stores}
 use Rattle.bind_writer.proofs.put_table.Statement.{statement}
 use Rattle.bind_writer.proofs.put_table.Tie as tie

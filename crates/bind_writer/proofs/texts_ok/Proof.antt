@@ -7,10 +7,10 @@ use denote.Ref.{now}
 use lib.ListN.{length, drop}
 use borrow.Author.Tests.{not-true, not-false}
 use borrow.Author.Needs.{needs}
-use Rattle.fields.specs.Lists.{all}
+use Rattle.fields.specs.Lists.{allOf}
 use Rattle.fields.proofs.Laws.Lists.{all-end}
-use Rattle.bind_writer.specs.Lists.{WithNames}
-use Rattle.bind_writer.specs.Writer.{textsOk}
+use Rattle.bind_writer.specs.ChildLists.{WithNames}
+use Rattle.bind_writer.specs.BindWriter.{textsOk}
 use Rattle.bind_writer.proofs.Laws.Slices.{length-given}
 use Rattle.bind_writer.proofs.Laws.Children.{texts-next, texts-type, texts-name}
 use Rattle.bind_writer.proofs.texts_ok.Statement.{statement}
@@ -18,7 +18,7 @@ use Rattle.bind_writer.proofs.texts_ok.Tie as tie
 
 abbrev Inv-loop : tie.InvT-loop
 Inv-loop types names i₀ i =
-    (i ≤ length types) × WithNames (map now types) (map now names) (λ cs. all textsOk cs ≡ all textsOk (drop i cs))
+    (i ≤ length types) × WithNames (map now types) (map now names) (λ cs. allOf textsOk cs ≡ allOf textsOk (drop i cs))
 
 abbrev μ-loop : tie.MeasureT-loop
 μ-loop types names i₀ i = length types - i

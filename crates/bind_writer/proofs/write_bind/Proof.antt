@@ -7,8 +7,8 @@ use lib.ListN.{length}
 use borrow.Author.Needs.{needs}
 use Rattle.fields.specs.declared.Written.the-variants.{Wrote, Refused}
 use Rattle.fields.proofs.Laws.Answer.{written-wrote, written-refused, out-refused, out-sets}
-use Rattle.bind_writer.specs.Writer.{writeFault, bindWritten, bindOut}
-use Rattle.bind_writer.specs.Lists.{children}
+use Rattle.bind_writer.specs.BindWriter.{writeFault, bindWritten, bindOut}
+use Rattle.bind_writer.specs.ChildLists.{children}
 use Rattle.bind_writer.proofs.Laws.Encoding.{length-cleaned}
 use Rattle.bind_writer.proofs.Laws.Faults.{passed, ready}
 use Rattle.bind_writer.proofs.write_bind.Statement.{statement}

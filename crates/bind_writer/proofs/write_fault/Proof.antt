@@ -5,8 +5,8 @@ use mathlib.Core.List.{map}
 use denote.Ref.{now}
 use borrow.Author.Tests.{not-true, not-false}
 use borrow.Author.Needs.{needs}
-use Rattle.bind_writer.specs.Lists.{children}
-use Rattle.bind_writer.specs.Writer.{listsOk}
+use Rattle.bind_writer.specs.ChildLists.{children}
+use Rattle.bind_writer.specs.BindWriter.{listsOk}
 use Rattle.bind_writer.proofs.Laws.Slices.{count-same}
 use Rattle.bind_writer.proofs.Laws.Children.{lists-of}
 use Rattle.bind_writer.proofs.Laws.Layout.{lists-passed}
@@ -44,8 +44,8 @@ returns-2 c =
     let f = c .before .first-fault .ensures (children ts ns ds) (e .0) (e .2) in
     f ∙ sym (by-children ts ns ds (a .room) h (λ z. c .if2 .taken (f ∙ z)))
 
-space-number-requires : tie.Need-space-number-requires
-space-number-requires c κs =
+space-fault-requires : tie.Need-space-fault-requires
+space-fault-requires c κs =
     let g = c .before .before .before .lists-ok in
     sym (g .ensures) ∙ not-false (g .result) (c .before .before .if1 .left)
 
@@ -59,7 +59,7 @@ returns-3 c =
     let h : listsOk ts ns ds ≡ true = sym (g .ensures) ∙ not-false (g .result) (c .before .before .before .if1 .left) in
     let e = lists-of ts ns ds (lists-passed ts ns ds h .count) in
     let f = c .before .before .first-fault .ensures (children ts ns ds) (e .0) (e .2) in
-    c .space-number .ensures ∙ sym (by-room ts ns ds (a .room) h (sym f ∙ c .before .if2 .left))
+    c .space-fault .ensures ∙ sym (by-room ts ns ds (a .room) h (sym f ∙ c .before .if2 .left))
 
 pub write-fault-spec : {M : Type 1} → statement M
 write-fault-spec =
@@ -69,5 +69,5 @@ write-fault-spec =
     returns
     first-fault-requires
     returns-2
-    space-number-requires
+    space-fault-requires
     returns-3)

@@ -10,11 +10,11 @@ use lib.Seq.{sets}
 use borrow.Author.Needs.{needs}
 use Rattle.fields.specs.declared.Checked.{Checked}
 use Rattle.fields.specs.Bytes.{same}
-use Rattle.bundle.specs.Layout.{dataOk, layoutFault, count, headers, dataOf}
-use Rattle.bundle.proofs.Laws.Read.{data-shorter, layout-data}
-use Rattle.content.proofs.Laws.Walk.{layout-number}
-use Rattle.cleaning.specs.Clean.{cleanDatas, cleanBind}
-use Rattle.cleaning.proofs.Laws.Walk.{bind-deep, bind-unlaid, bind-start, datas-end, datas-walk, left-ok, left-shorter, child-fits, as-bind, as-other}
+use Rattle.bind_layout.specs.BindLayout.{dataOk, layoutFault, childCount, headers, dataOf}
+use Rattle.bind_layout.proofs.Laws.Read.{data-shorter, layout-data}
+use Rattle.content.proofs.Laws.ChildrenWalk.{layout-number}
+use Rattle.cleaning.specs.CleanBytes.{cleanDatas, cleanBind}
+use Rattle.cleaning.proofs.Laws.CleaningWalk.{bind-deep, bind-unlaid, bind-start, datas-end, datas-walk, left-ok, left-shorter, child-fits, as-bind, as-other}
 use borrow.Fn.Kinds.{In}
 use borrow.Fn.PlainCycle.{Measures, is, falls, and}
 use Rattle.cleaning.proofs.put_bind.Reads as put-bind
@@ -23,13 +23,13 @@ use Rattle.cleaning.proofs.+put_bind+put_content.Lts-put_bind as put-bi
 use Rattle.cleaning.proofs.put_content.Reads as put-content
 use Rattle.cleaning.proofs.put_content.Kinds as put-content-kinds
 use Rattle.cleaning.proofs.+put_bind+put_content.Lts-put_content as put-content-lts
-use Rattle.bundle.proofs.layout.check_layout.Reads as check-layout-reads
-use Rattle.bundle.proofs.parts.after_block.Reads as after-block-reads
-use Rattle.bundle.proofs.parts.count.Reads as count-reads
-use Rattle.bundle.proofs.parts.data_of.Reads as data-of-reads
-use Rattle.bundle.proofs.parts.headers.Reads as headers-reads
-use Rattle.bundle.proofs.parts.size_of.Reads as size-of-reads
-use Rattle.bundle.proofs.parts.type_of.Reads as type-of-reads
+use Rattle.bind_layout.proofs.layout_check.check_layout.Reads as check-layout-reads
+use Rattle.bind_layout.proofs.bind_parts.after_block.Reads as after-block-reads
+use Rattle.bind_layout.proofs.bind_parts.child_count.Reads as count-reads
+use Rattle.bind_layout.proofs.bind_parts.data_of.Reads as data-of-reads
+use Rattle.bind_layout.proofs.bind_parts.headers.Reads as headers-reads
+use Rattle.bind_layout.proofs.bind_parts.size_of.Reads as size-of-reads
+use Rattle.bind_layout.proofs.bind_parts.type_of.Reads as type-of-reads
 use Rattle.cleaning.proofs.put_front.Reads as put-front-reads
 use Rattle.fields.proofs.slice.first.Reads as first-reads
 use Rattle.fields.proofs.slice.part.Reads as part-reads
@@ -149,7 +149,7 @@ put-bind-headers-requires t c κs = search needs
 put-bind-data-of-requires : (t : ℕ) → put-bind-lts.Need-data-of-requires (bind-claims t) (put-bind-at t) put-bind.Post put-bind-Inv-loop put-bind-μ-loop
 put-bind-data-of-requires t c κs = search needs
 
-put-bind-count-requires : (t : ℕ) → put-bind-lts.Need-count-requires (bind-claims t) (put-bind-at t) put-bind.Post put-bind-Inv-loop put-bind-μ-loop
+put-bind-count-requires : (t : ℕ) → put-bind-lts.Need-child-count-requires (bind-claims t) (put-bind-at t) put-bind.Post put-bind-Inv-loop put-bind-μ-loop
 put-bind-count-requires t c κs = search needs
 
 put-bind-loop-holds : (t : ℕ) → put-bind-lts.Need-loop-holds (bind-claims t) (put-bind-at t) put-bind.Post put-bind-Inv-loop put-bind-μ-loop
@@ -162,7 +162,7 @@ put-bind-loop-holds t c =
       refl,
       refl,
       omega (arith, ap length ds, data-shorter s n),
-      (λ i. dataOk (c .count .ensures i) (hs i) (ds i)) ∙ layout-data s n,
+      (λ i. dataOk (c .child-count .ensures i) (hs i) (ds i)) ∙ layout-data s n,
     )
 
 put-bind-size-of-requires : (t : ℕ) → put-bind-lts.Need-size-of-requires (bind-claims t) (put-bind-at t) put-bind.Post put-bind-Inv-loop put-bind-μ-loop
@@ -248,7 +248,7 @@ put-bind-returns-3 t c =
     let g = c .before .loop in
     let n : layoutFault s ≡ 0 = sym (ap (λ (x : Checked). x .number) (c .before .before .before .before .before .before .before .before .before .before .before .check-layout .ensures) ∙ layout-number s) ∙ c .before .before .before .before .before .before .before .before .before .if2 .left in
     sym
-    (bind-start (z .levels) s (z .out .now) _ _ _ (z .at) (c .before .before .count .result) (c .before .before .before .before .before .before .before .before .before .before .before .before .if1 .left) n (c .before .before .before .before .before .before .before .put-front .ensures) (c .before .before .before .before .headers .ensures) (c .before .before .before .data-of .ensures) (c .before .before .count .ensures)
+    (bind-start (z .levels) s (z .out .now) _ _ _ (z .at) (c .before .before .child-count .result) (c .before .before .before .before .before .before .before .before .before .before .before .before .if1 .left) n (c .before .before .before .before .before .before .before .put-front .ensures) (c .before .before .before .before .headers .ensures) (c .before .before .before .data-of .ensures) (c .before .before .child-count .ensures)
     ∙ g .inv .0
     ∙ ap (sets (g .out) (z .at + (length s - length (g .d .now)))) (datas-end (z .levels - 1) (g .left) (g .h .now) (g .d .now) (c .loop-test .left)))
 

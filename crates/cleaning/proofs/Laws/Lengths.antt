@@ -13,10 +13,10 @@ use Rattle.fields.specs.Text.{textBytes}
 use Rattle.fields.proofs.Laws.Bytes.{length-part}
 use Rattle.fields.proofs.Laws.Tests.{by-test}
 use Rattle.fields.proofs.Laws.Text.{length-textBytes}
-use Rattle.bundle.specs.Layout.{count, headers, afterHeaders, tableSize, dataOf, typeOf, sizeOf, afterBlock, dataOk, layoutFault}
-use Rattle.bundle.proofs.Laws.Read.{data-end, data-step, layout-fits, layout-data}
+use Rattle.bind_layout.specs.BindLayout.{childCount, headers, afterHeaders, tableSize, dataOf, typeOf, sizeOf, afterBlock, dataOk, layoutFault}
+use Rattle.bind_layout.proofs.Laws.Read.{data-end, data-step, layout-fits, layout-data}
 use Rattle.content.specs.Kinds.{bindText}
-use Rattle.cleaning.specs.Clean.{cleanHeaders, cleanFront, cleanAs, cleanDatas, cleanBind, cleanBytes}
+use Rattle.cleaning.specs.CleanBytes.{cleanHeaders, cleanFront, cleanAs, cleanDatas, cleanBind, cleanBytes}
 
 -- f keeps the length of any bytes
 abbrev pub Keeps : (List ℕ → List ℕ) → Type 0
@@ -73,21 +73,21 @@ module _ (s : List ℕ) (h : layoutFault s ≡ 0) where
   unfolding cleanFront
   length-front =
       let a = take 2 s in
-      let b = cleanHeaders (count s) (headers s) in
+      let b = cleanHeaders (childCount s) (headers s) in
       let c = take (2 + tableSize s) (afterHeaders s) in
       let l = layout-fits s h in
-      let m : 20 * count s ≤ length (headers s) = omega (arith, length-drop 2 s) in
-      let n : 2 + tableSize s ≤ length (afterHeaders s) = omega (arith, length-drop (2 + 20 * count s) s) in
+      let m : 20 * childCount s ≤ length (headers s) = omega (arith, length-drop 2 s) in
+      let n : 2 + tableSize s ≤ length (afterHeaders s) = omega (arith, length-drop (2 + 20 * childCount s) s) in
       omega (
         arith,
         l,
         length-append a (b ++ c),
         length-append b c,
         length-take-le 2 s (omega arith),
-        length-headers (count s) (headers s) m,
+        length-headers (childCount s) (headers s) m,
         length-take-le (2 + tableSize s) (afterHeaders s) n,
         length-drop (2 + tableSize s) (afterHeaders s),
-        length-drop (2 + 20 * count s) s,
+        length-drop (2 + 20 * childCount s) s,
       )
 
 pub length-bind : (levels : ℕ) → Keeps (cleanBind levels)
@@ -95,11 +95,11 @@ unfolding cleanBind
 length-bind zero s = refl
 length-bind (suc levels) s =
     let f = cleanFront s in
-    let d = cleanDatas (cleanBind levels) (count s) (headers s) (dataOf s) in
+    let d = cleanDatas (cleanBind levels) (childCount s) (headers s) (dataOf s) in
     by-test (eqb (layoutFault s) 0)
     (λ e.
     let h = eqb-true (layoutFault s) 0 e in
-    let n = length-datas (cleanBind levels) (length-bind levels) (count s) (headers s) (dataOf s) (layout-data s h) in
+    let n = length-datas (cleanBind levels) (length-bind levels) (childCount s) (headers s) (dataOf s) (layout-data s h) in
     ap (λ (b : Bool). length (cond b (f ++ d) s)) e ∙ length-append f d ∙ ap (λ (m : ℕ). length f + m) n ∙ length-front s h)
     (λ e. ap (λ (b : Bool). length (cond b (f ++ d) s)) e)
 

@@ -4,7 +4,7 @@ use mathlib.Core.Path.{sym, ap}
 use mathlib.Core.Bool.{Bool, cond}
 use native.Mathlib.Omega.{arith}
 use borrow.Author.Tests.{le-leb, lt-leb}
-use Rattle.content.specs.Check.{deepest}
+use Rattle.content.specs.ContentCheck.{deepest}
 use Rattle.cleaning.proofs.bounded_levels.Statement.{statement}
 use Rattle.cleaning.proofs.bounded_levels.Tie as tie
 

@@ -2,10 +2,10 @@
 use Prim.Native.Nat.{ℕ}
 use mathlib.Core.Path.{sym, ap, _∙_}
 use lib.Seq.{sets}
-use Rattle.cleaning.specs.Clean.{cleanBytes}
+use Rattle.cleaning.specs.CleanBytes.{cleanBytes}
 use native.Mathlib.Omega.{arith}
 use borrow.Author.Needs.{needs}
-use Rattle.cleaning.proofs.Laws.Walk.{put-fits, put-short}
+use Rattle.cleaning.proofs.Laws.CleaningWalk.{put-fits, put-short}
 use Rattle.cleaning.proofs.put_clean.Statement.{statement}
 use Rattle.cleaning.proofs.put_clean.Tie as tie
 

@@ -8,8 +8,8 @@ use lib.Seq.{sets}
 use borrow.Author.Needs.{needs}
 use Rattle.fields.specs.Bytes.{part}
 use Rattle.fields.specs.Text.{textBytes}
-use Rattle.cleaning.specs.Clean.{cleanHeaders}
-use Rattle.cleaning.proofs.Laws.Walk.{headers-end, headers-walk}
+use Rattle.cleaning.specs.CleanBytes.{cleanHeaders}
+use Rattle.cleaning.proofs.Laws.CleaningWalk.{headers-end, headers-walk}
 use Rattle.cleaning.proofs.put_headers.Statement.{statement}
 use Rattle.cleaning.proofs.put_headers.Tie as tie
 

@@ -6,14 +6,14 @@ use mathlib.Core.List.{List}
 use Prim.Native.Nat.{ℕ, _+_, _-_, _%_, _<_, _≤_}
 use native.Mathlib.Omega.{arith}
 use lib.ListN.{length, take, drop, length-take, length-drop}
-use Rattle.bundle.specs.Layout.{headers, dataOf, typeOf, sizeOf, afterBlock}
+use Rattle.bind_layout.specs.BindLayout.{headers, dataOf, typeOf, sizeOf, afterBlock}
 use Rattle.fields.specs.declared.Checked.{Checked}
 use Rattle.fields.specs.Answer.{checked}
 use Rattle.fields.proofs.Laws.Checks.{and-assoc, and-true}
-use Rattle.bundle.proofs.Laws.Read.{data-shorter}
+use Rattle.bind_layout.proofs.Laws.Read.{data-shorter}
 use Rattle.content.specs.declared.Kind.the-variants.{Transform, Position, Image, Bind, Other}
-use Rattle.content.specs.Check.{childrenFault, bindFault, childrenClean, bindClean, contentChecked, bindChecked}
-use Rattle.content.proofs.Laws.Walk.{kind-checked, kind-bound, bind-none-left, bind-walk, children-end, children-stop, children-next, bind-refused, bind-passed, bind-mark, layout-number, layout-stop, marks-end, marks-next, child-number, child-stop}
+use Rattle.content.specs.ContentCheck.{childrenFault, bindFault, childrenClean, bindClean, contentChecked, bindChecked}
+use Rattle.content.proofs.Laws.ChildrenWalk.{kind-checked, kind-bound, bind-none-left, bind-walk, children-end, children-stop, children-next, bind-refused, bind-passed, bind-mark, layout-number, layout-stop, marks-end, marks-next, child-fault, child-stop}
 use borrow.Author.Needs.{needs}
 use borrow.Fn.Kinds.{In}
 use borrow.Fn.PlainCycle.{Measures, is, falls, and}
@@ -23,21 +23,21 @@ use Rattle.content.proofs.+check_bind+check_content.Lts-check_bind as c
 use Rattle.content.proofs.check_content.Reads as check-content
 use Rattle.content.proofs.check_content.Kinds as check-content-kinds
 use Rattle.content.proofs.+check_bind+check_content.Lts-check_content as check-content-lts
-use Rattle.bundle.proofs.layout.check_layout.Reads as check-layout-reads
-use Rattle.bundle.proofs.parts.after_block.Reads as after-block-reads
-use Rattle.bundle.proofs.parts.count.Reads as count-reads
-use Rattle.bundle.proofs.parts.data_of.Reads as data-of-reads
-use Rattle.bundle.proofs.parts.headers.Reads as headers-reads
-use Rattle.bundle.proofs.parts.size_of.Reads as size-of-reads
-use Rattle.bundle.proofs.parts.type_of.Reads as type-of-reads
+use Rattle.bind_layout.proofs.layout_check.check_layout.Reads as check-layout-reads
+use Rattle.bind_layout.proofs.bind_parts.after_block.Reads as after-block-reads
+use Rattle.bind_layout.proofs.bind_parts.child_count.Reads as count-reads
+use Rattle.bind_layout.proofs.bind_parts.data_of.Reads as data-of-reads
+use Rattle.bind_layout.proofs.bind_parts.headers.Reads as headers-reads
+use Rattle.bind_layout.proofs.bind_parts.size_of.Reads as size-of-reads
+use Rattle.bind_layout.proofs.bind_parts.type_of.Reads as type-of-reads
 use Rattle.content.proofs.kind_of.Reads as kind-of-reads
 use Rattle.fields.proofs.both.Reads as both-reads
 use Rattle.fields.proofs.marked.Reads as marked-reads
 use Rattle.fields.proofs.slice.first.Reads as first-reads
 use Rattle.fields.proofs.slice.rest.Reads as rest-reads
-use Rattle.image.proofs.image_number.Reads as image-number-reads
-use Rattle.pose.proofs.position_number.Reads as position-number-reads
-use Rattle.pose.proofs.transform_number.Reads as transform-number-reads
+use Rattle.image.proofs.image_fault.Reads as image-number-reads
+use Rattle.pose.proofs.position_fault.Reads as position-number-reads
+use Rattle.pose.proofs.transform_fault.Reads as transform-number-reads
 use Rattle.content.proofs.+check_bind+check_content.{statement}
 use Rattle.content.proofs.+check_bind+check_content.Tie.{close}
 
@@ -155,7 +155,7 @@ check-bind-headers-requires t c κs = search needs
 check-bind-data-of-requires : (t : ℕ) → check-bind-lts.Need-data-of-requires (bind-claims t) (check-bind-at t) check-bind.Post check-bind-Inv-loop check-bind-μ-loop
 check-bind-data-of-requires t c κs = search needs
 
-check-bind-count-requires : (t : ℕ) → check-bind-lts.Need-count-requires (bind-claims t) (check-bind-at t) check-bind.Post check-bind-Inv-loop check-bind-μ-loop
+check-bind-count-requires : (t : ℕ) → check-bind-lts.Need-child-count-requires (bind-claims t) (check-bind-at t) check-bind.Post check-bind-Inv-loop check-bind-μ-loop
 check-bind-count-requires t c κs = search needs
 
 check-bind-loop-holds : (t : ℕ) → check-bind-lts.Need-loop-holds (bind-claims t) (check-bind-at t) check-bind.Post check-bind-Inv-loop check-bind-μ-loop
@@ -168,16 +168,16 @@ check-bind-loop-holds t c =
     let h = sym (ap (λ (x : Checked). x .number) layout ∙ layout-number s) ∙ c .before .before .before .if2 .left in
     let hs = sym (c .before .before .headers .ensures) in
     let ds = sym (c .before .data-of .ensures) in
-    let n = sym (c .count .ensures) in
+    let n = sym (c .child-count .ensures) in
     let e = ap length (c .before .data-of .ensures) in
     let k = data-shorter s h in (
       bind-walk (z .levels) s (c .before .before .before .before .before .before .if1 .left) h
           ∙ ap (λ (m : ℕ). f m (headers s) (dataOf s)) n
-          ∙ ap₂ (f (c .count .result)) hs ds,
+          ∙ ap₂ (f (c .child-count .result)) hs ds,
       omega arith,
       bind-mark (z .levels) s (c .before .before .before .before .before .before .if1 .left) (c .before .before .before .before .before .check-layout .result .clean) (ap (λ (x : Checked). x .clean) layout) h
           ∙ ap (λ (m : ℕ). c .before .before .before .before .before .check-layout .result .clean && g m (headers s) (dataOf s)) n
-          ∙ ap₂ (λ (x y : List ℕ). c .before .before .before .before .before .check-layout .result .clean && g (c .count .result) x y) hs ds,
+          ∙ ap₂ (λ (x y : List ℕ). c .before .before .before .before .before .check-layout .result .clean && g (c .child-count .result) x y) hs ds,
     )
 
 check-bind-size-of-requires : (t : ℕ) → check-bind-lts.Need-size-of-requires (bind-claims t) (check-bind-at t) check-bind.Post check-bind-Inv-loop check-bind-μ-loop
@@ -207,7 +207,7 @@ check-bind-returns-3 t c =
     let r = c .before .before .check-content .result in
     let p = c .before .before .before .before .before .before .loop-test .taken in
     let e : r ≡ contentChecked l (typeOf h) (take (sizeOf h) d) = child-answer l h d (c .before .before .check-content .ensures) (c .before .before .before .before .type-of .ensures) (c .before .before .before .first .ensures) (c .before .before .before .before .before .size-of .ensures) in
-    let stop = c .before .before .before .before .before .before .before .loop .inv .0 ∙ children-stop l (c .before .before .before .before .before .before .before .loop .left) h d p (r .number) (child-number l (c .before .before .before .before .before .before .before .loop .left) h d p r e) (c .if3 .taken) in
+    let stop = c .before .before .before .before .before .before .before .loop .inv .0 ∙ children-stop l (c .before .before .before .before .before .before .before .loop .left) h d p (r .number) (child-fault l (c .before .before .before .before .before .before .before .loop .left) h d p r e) (c .if3 .taken) in
     child-stop l (c .before .before .before .before .before .before .before .loop .left) h d p r e (z .levels) (z .content .now) stop (c .if3 .taken)
 
 check-bind-both-requires : (t : ℕ) → check-bind-lts.Need-both-requires (bind-claims t) (check-bind-at t) check-bind.Post check-bind-Inv-loop check-bind-μ-loop
@@ -242,7 +242,7 @@ check-bind-loop-again t c =
     let x = c .before .rest .result .now in
     let y = c .after-block .result .now in (
       c .before .before .before .before .before .before .before .before .before .before .loop .inv .0
-          ∙ children-next l left h d p (r .number) (child-number l left h d p r e) (c .before .before .before .if3 .left)
+          ∙ children-next l left h d p (r .number) (child-fault l left h d p r e) (c .before .before .before .if3 .left)
           ∙ ap₂ (childrenFault (bindFault l) (left - 1)) hs ds,
       omega arith,
       c .before .before .before .before .before .before .before .before .before .before .loop .inv .2
@@ -270,7 +270,7 @@ check-content-kind-of-requires t c κs = search needs
 check-content-enum-told : (t : ℕ) → check-content-lts.Need-enum-told (content-claims t) (check-content-at t) check-content.Post
 check-content-enum-told t c = search needs
 
-check-content-transform-number-requires : (t : ℕ) → check-content-lts.Need-transform-number-requires (content-claims t) (check-content-at t) check-content.Post
+check-content-transform-number-requires : (t : ℕ) → check-content-lts.Need-transform-fault-requires (content-claims t) (check-content-at t) check-content.Post
 check-content-transform-number-requires t c κs = search needs
 
 check-content-marked-requires : (t : ℕ) → check-content-lts.Need-marked-requires (content-claims t) (check-content-at t) check-content.Post
@@ -279,7 +279,7 @@ check-content-marked-requires t c κs = search needs
 check-content-enum-told-2 : (t : ℕ) → check-content-lts.Need-enum-told-2 (content-claims t) (check-content-at t) check-content.Post
 check-content-enum-told-2 t c = search needs
 
-check-content-position-number-requires : (t : ℕ) → check-content-lts.Need-position-number-requires (content-claims t) (check-content-at t) check-content.Post
+check-content-position-number-requires : (t : ℕ) → check-content-lts.Need-position-fault-requires (content-claims t) (check-content-at t) check-content.Post
 check-content-position-number-requires t c κs = search needs
 
 check-content-marked-requires-2 : (t : ℕ) → check-content-lts.Need-marked-requires-2 (content-claims t) (check-content-at t) check-content.Post
@@ -288,7 +288,7 @@ check-content-marked-requires-2 t c κs = search needs
 check-content-enum-told-3 : (t : ℕ) → check-content-lts.Need-enum-told-3 (content-claims t) (check-content-at t) check-content.Post
 check-content-enum-told-3 t c = search needs
 
-check-content-image-number-requires : (t : ℕ) → check-content-lts.Need-image-number-requires (content-claims t) (check-content-at t) check-content.Post
+check-content-image-number-requires : (t : ℕ) → check-content-lts.Need-image-fault-requires (content-claims t) (check-content-at t) check-content.Post
 check-content-image-number-requires t c κs = search needs
 
 check-content-marked-requires-3 : (t : ℕ) → check-content-lts.Need-marked-requires-3 (content-claims t) (check-content-at t) check-content.Post
@@ -310,19 +310,19 @@ check-content-returns : (t : ℕ) → check-content-lts.Need-returns (content-cl
 check-content-returns t c =
     let z = c .before .before .before .before .before .before .before .args in
     let k = sym (c .before .before .before .before .kind-of .ensures) ∙ c .before .before .enum-told .given .1 in
-    c .marked .ensures ∙ ap (λ (n : ℕ). checked n true) (c .before .transform-number .ensures) ∙ sym (kind-checked (z .levels) (z .type-text .now) (z .content .now) Transform k)
+    c .marked .ensures ∙ ap (λ (n : ℕ). checked n true) (c .before .transform-fault .ensures) ∙ sym (kind-checked (z .levels) (z .type-text .now) (z .content .now) Transform k)
 
 check-content-returns-2 : (t : ℕ) → check-content-lts.Need-returns-2 (content-claims t) (check-content-at t) check-content.Post
 check-content-returns-2 t c =
     let z = c .before .before .before .before .before .before .before .args in
     let k = sym (c .before .before .before .before .kind-of .ensures) ∙ c .before .before .enum-told2 .given .1 in
-    c .marked2 .ensures ∙ ap (λ (n : ℕ). checked n true) (c .before .position-number .ensures) ∙ sym (kind-checked (z .levels) (z .type-text .now) (z .content .now) Position k)
+    c .marked2 .ensures ∙ ap (λ (n : ℕ). checked n true) (c .before .position-fault .ensures) ∙ sym (kind-checked (z .levels) (z .type-text .now) (z .content .now) Position k)
 
 check-content-returns-3 : (t : ℕ) → check-content-lts.Need-returns-3 (content-claims t) (check-content-at t) check-content.Post
 check-content-returns-3 t c =
     let z = c .before .before .before .before .before .before .before .args in
     let k = sym (c .before .before .before .before .kind-of .ensures) ∙ c .before .before .enum-told3 .given .1 in
-    c .marked3 .ensures ∙ ap (λ (n : ℕ). checked n true) (c .before .image-number .ensures) ∙ sym (kind-checked (z .levels) (z .type-text .now) (z .content .now) Image k)
+    c .marked3 .ensures ∙ ap (λ (n : ℕ). checked n true) (c .before .image-fault .ensures) ∙ sym (kind-checked (z .levels) (z .type-text .now) (z .content .now) Image k)
 
 check-content-returns-4 : (t : ℕ) → check-content-lts.Need-returns-4 (content-claims t) (check-content-at t) check-content.Post
 check-content-returns-4 t c =

@@ -10,19 +10,19 @@ use Rattle.fields.proofs.Laws.Checks.{zero-else}
 use Rattle.pose.specs.Words.{wordBytes}
 use Rattle.pose.proofs.Laws.{transform-accepted, transform-well, position-accepted, position-well, words-unique}
 use Rattle.image.proofs.Laws.{image-accepted, image-well, image-unique}
-use Rattle.bundle.specs.Children.{Child, encodeChildren, WellBundle}
-use Rattle.bundle.specs.Layout.{count, headers, afterHeaders, tableSize, tableOf, dataOf, layoutFault}
-use Rattle.bundle.proofs.Laws.Children.{childrenOf, bytes-children}
-use Rattle.bundle.proofs.Laws.Read.{encode-read, well-children}
-use Rattle.bundle.proofs.Laws.Bundles.{bundle-unique}
+use Rattle.bind_layout.specs.Children.{Child, encodeChildren, WellBundle}
+use Rattle.bind_layout.specs.BindLayout.{childCount, headers, afterHeaders, tableSize, tableOf, dataOf, layoutFault}
+use Rattle.bind_layout.proofs.Laws.Children.{childrenOf, bytes-children}
+use Rattle.bind_layout.proofs.Laws.Read.{encode-read, well-children}
+use Rattle.bind_layout.proofs.Laws.BundleTheorems.{bundle-unique}
 use Rattle.content.specs.declared.Kind.the-variants.{Transform, Position, Image, Bind}
 use Rattle.content.specs.Kinds.{bindText}
 use Rattle.content.specs.Tree.{Content, Children, transform, position, image, bind, other, none, more, typeText, encode, childList, WellFormed, WellChildren}
-use Rattle.content.specs.Check.{childrenFault, bindFault, contentFault}
-use Rattle.content.specs.Contents.{IsContent}
+use Rattle.content.specs.ContentCheck.{childrenFault, bindFault, contentFault}
+use Rattle.content.specs.ContentTheorems.{IsContent}
 use Rattle.content.proofs.Laws.Kinds.{View, is-transform, is-position, is-image, is-bind, is-other, view, differ}
-use Rattle.content.proofs.Laws.Faults.{childFault, none-faulty, all-faultless, bind-children, bind-written, numbers}
-use Rattle.content.proofs.Laws.Walk.{kind-fault, bind-none-left}
+use Rattle.content.proofs.Laws.Faults.{childFault, none-faulty, all-faultless, bind-children, bind-written, content-numbers}
+use Rattle.content.proofs.Laws.ChildrenWalk.{kind-fault, bind-none-left}
 
 -- ---- what is well formed is accepted
 
@@ -30,13 +30,13 @@ mutual
   unfolding WellFormed encode
 
   pub content-well : (levels : ℕ) (x : Content) → WellFormed x levels → contentFault levels (typeText x) (encode x) ≡ 0
-  content-well levels (transform ws) w = numbers .transform levels (wordBytes ws) ∙ transform-well ws w
-  content-well levels (position ws) w = numbers .position levels (wordBytes ws) ∙ position-well ws w
-  content-well levels (image x) w = numbers .image levels _ ∙ image-well x w
+  content-well levels (transform ws) w = content-numbers .transform levels (wordBytes ws) ∙ transform-well ws w
+  content-well levels (position ws) w = content-numbers .position levels (wordBytes ws) ∙ position-well ws w
+  content-well levels (image x) w = content-numbers .image levels _ ∙ image-well x w
   content-well zero (bind cs) w = absurd w
   content-well (suc levels) (bind cs) w =
       bind-written levels (childList cs) (w .0) ∙ all-faultless (childFault levels) (childList cs) (children-well levels cs (w .1))
-  content-well levels (other t s) w = numbers .opaque levels t s (w .0)
+  content-well levels (other t s) w = content-numbers .opaque levels t s (w .0)
 
   children-well : (levels : ℕ) (cs : Children) → WellChildren cs levels → Each (λ c. childFault levels c ≡ 0) (childList cs)
   children-well levels none w = tt
@@ -66,10 +66,10 @@ trees levels judge (c ∷ cs) b e =
 bind-accepted : (levels : ℕ) → Judges levels → (s : List ℕ) → Bytes s → bindFault (suc levels) s ≡ 0 → IsContent (suc levels) bindText s
 unfolding WellFormed encode bindFault
 bind-accepted levels judge s b e =
-    let h = zero-else (layoutFault s) (childrenFault (bindFault levels) (count s) (headers s) (dataOf s)) e .0 in
-    let d = bytes-drop (2 + tableSize s) (afterHeaders s) (bytes-drop (2 + 20 * count s) s b) in
+    let h = zero-else (layoutFault s) (childrenFault (bindFault levels) (childCount s) (headers s) (dataOf s)) e .0 in
+    let d = bytes-drop (2 + tableSize s) (afterHeaders s) (bytes-drop (2 + 20 * childCount s) s b) in
     let f = none-faulty (childFault levels) (childrenOf s) (sym (bind-children levels s h) ∙ e) in
-    let r = trees levels judge (childrenOf s) (bytes-children (count s) (headers s) (tableOf s) (dataOf s) d) f in
+    let r = trees levels judge (childrenOf s) (bytes-children (childCount s) (headers s) (tableOf s) (dataOf s) d) f in
     record {
       content = bind (r .0);
       type = refl;

@@ -10,17 +10,17 @@ use Rattle.fields.specs.Lists.{Each}
 use Rattle.fields.specs.Text.{pastText}
 use Rattle.fields.specs.Checks.{orElse}
 use Rattle.fields.proofs.Laws.Checks.{zero-else, else-zero, else-first, else-second}
-use Rattle.bundle.specs.Children.{Child, encodeChildren, WellBundle}
-use Rattle.bundle.specs.Layout.{count, headers, tableOf, dataOf, typeOf, sizeOf, afterBlock, layoutFault}
-use Rattle.bundle.specs.Bundles.{IsBundle}
-use Rattle.bundle.proofs.Laws.Children.{childrenFrom, childrenOf}
-use Rattle.bundle.proofs.Laws.Written.{layout-written, children-written}
-use Rattle.bundle.proofs.Laws.Bundles.{bundles}
+use Rattle.bind_layout.specs.Children.{Child, encodeChildren, WellBundle}
+use Rattle.bind_layout.specs.BindLayout.{childCount, headers, tableOf, dataOf, typeOf, sizeOf, afterBlock, layoutFault}
+use Rattle.bind_layout.specs.BundleTheorems.{IsBundle}
+use Rattle.bind_layout.proofs.Laws.Children.{childrenFrom, childrenOf}
+use Rattle.bind_layout.proofs.Laws.Written.{layout-written, children-written}
+use Rattle.bind_layout.proofs.Laws.BundleTheorems.{bundle-theorems}
 use Rattle.content.specs.declared.Kind.the-variants.{Transform, Position, Image, Bind, Other}
 use Rattle.content.specs.Kinds.{transformText, positionText, imageText, bindText, kindOf}
-use Rattle.content.specs.Check.{kindFault, childrenFault, bindFault, contentFault}
-use Rattle.content.specs.Contents.{firstFault, Numbers}
-use Rattle.content.proofs.Laws.Walk.{kind-fault, bind-none-left}
+use Rattle.content.specs.ContentCheck.{kindFault, childrenFault, bindFault, contentFault}
+use Rattle.content.specs.ContentTheorems.{firstFault, ContentNumbers}
+use Rattle.content.proofs.Laws.ChildrenWalk.{kind-fault, bind-none-left}
 use Rattle.content.proofs.Laws.Kinds.{kind-transform, kind-position, kind-image, kind-bind, kind-other}
 
 -- the fault of one child
@@ -75,8 +75,8 @@ bind-content levels s = kind-fault levels bindText s Bind kind-bind
 pub bind-children : (levels : ℕ) (s : List ℕ) → layoutFault s ≡ 0 → bindFault (suc levels) s ≡ firstFault (childFault levels) (childrenOf s)
 unfolding bindFault
 bind-children levels s e =
-    else-second (layoutFault s) (childrenFault (bindFault levels) (count s) (headers s) (dataOf s)) e
-    ∙ faults-list levels (count s) (headers s) (tableOf s) (dataOf s)
+    else-second (layoutFault s) (childrenFault (bindFault levels) (childCount s) (headers s) (dataOf s)) e
+    ∙ faults-list levels (childCount s) (headers s) (tableOf s) (dataOf s)
 
 pub bind-written : (levels : ℕ) (cs : List Child) → WellBundle cs → contentFault (suc levels) bindText (encodeChildren cs) ≡ firstFault (childFault levels) cs
 bind-written levels cs w =
@@ -87,15 +87,15 @@ bind-written levels cs w =
 bind-layout : (levels : ℕ) (s : List ℕ) → Bytes s → (IsBundle s → ⊥) → contentFault (suc levels) bindText s ≡ 10
 unfolding bindFault
 bind-layout levels s b n =
-    let e = bundles .refused s b n in
+    let e = bundle-theorems .refused s b n in
     bind-content (suc levels) s
-    ∙ ap (λ (k : ℕ). orElse k (childrenFault (bindFault levels) (count s) (headers s) (dataOf s))) e
+    ∙ ap (λ (k : ℕ). orElse k (childrenFault (bindFault levels) (childCount s) (headers s) (dataOf s))) e
 
 bind-too-deep : (s : List ℕ) → contentFault 0 bindText s ≡ 11
 bind-too-deep s = bind-content 0 s ∙ bind-none-left 0 s refl
 
-pub numbers : Numbers
-numbers =
+pub content-numbers : ContentNumbers
+content-numbers =
     record {
       transform = λ levels s. kind-fault levels transformText s Transform kind-transform;
       position = λ levels s. kind-fault levels positionText s Position kind-position;

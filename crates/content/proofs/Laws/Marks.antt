@@ -4,21 +4,21 @@ use mathlib.Core.Bool.{Bool, true, false, _&&_}
 use mathlib.Core.List.{List, [], _∷_}
 use Prim.Native.Nat.{ℕ, zero, suc}
 use lib.ListN.{take, drop}
-use Rattle.fields.specs.Lists.{all, Each}
+use Rattle.fields.specs.Lists.{allOf, Each}
 use Rattle.fields.specs.Text.{pastText}
 use Rattle.fields.specs.Answer.{checked}
 use Rattle.fields.proofs.Laws.Answer.{checked-mark, checked-false}
 use Rattle.fields.proofs.Laws.Checks.{and-split, and-join}
-use Rattle.bundle.specs.Children.{Child, encodeChildren, WellBundle, CleanChild}
-use Rattle.bundle.specs.Layout.{count, headers, tableOf, dataOf, typeOf, sizeOf, afterBlock, typesClean}
-use Rattle.bundle.proofs.Laws.Children.{childrenFrom, childrenOf}
-use Rattle.bundle.proofs.Laws.Written.{children-written}
-use Rattle.bundle.proofs.Laws.Marks.{types-clean-to, types-clean-from}
+use Rattle.bind_layout.specs.Children.{Child, encodeChildren, WellBundle, CleanChild}
+use Rattle.bind_layout.specs.BindLayout.{childCount, headers, tableOf, dataOf, typeOf, sizeOf, afterBlock, typesClean}
+use Rattle.bind_layout.proofs.Laws.Children.{childrenFrom, childrenOf}
+use Rattle.bind_layout.proofs.Laws.Written.{children-written}
+use Rattle.bind_layout.proofs.Laws.Marks.{types-clean-to, types-clean-from}
 use Rattle.content.specs.declared.Kind.{Kind}
 use Rattle.content.specs.declared.Kind.the-variants.{Transform, Position, Image, Bind, Other}
 use Rattle.content.specs.Kinds.{kindOf, bindText, transformText, positionText, imageText}
 use Rattle.content.specs.Tree.{Content, Children, transform, position, image, bind, other, none, more, typeText, encode, childList, WellFormed, WellChildren, IsClean, AllClean}
-use Rattle.content.specs.Check.{kindClean, childrenClean, bindClean, contentFault, contentClean, contentChecked}
+use Rattle.content.specs.ContentCheck.{kindClean, childrenClean, bindClean, contentFault, contentClean, contentChecked}
 use Rattle.content.proofs.Laws.Kinds.{kind-transform, kind-position, kind-image, kind-bind, kind-other}
 use Rattle.content.proofs.Laws.Contents.{content-well}
 
@@ -31,8 +31,8 @@ unfolding contentClean
 kind-clean levels t s k e = ap (λ (x : Kind). kindClean (bindClean levels) x s) e
 
 -- the walk over the children is the test of each in the list of them
-marks-list : (levels k : ℕ) (h t d : List ℕ) → childrenClean (bindClean levels) k h d ≡ all (childClean levels) (childrenFrom k h t d)
-unfolding childrenClean childrenFrom contentClean all
+marks-list : (levels k : ℕ) (h t d : List ℕ) → childrenClean (bindClean levels) k h d ≡ allOf (childClean levels) (childrenFrom k h t d)
+unfolding childrenClean childrenFrom contentClean allOf
 marks-list levels zero h t d = refl
 marks-list levels (suc k) h t d =
     ap (λ (b : Bool). kindClean (bindClean levels) (kindOf (typeOf h)) (take (sizeOf h) d) && b)
@@ -40,15 +40,15 @@ marks-list levels (suc k) h t d =
 
 -- a written BIND
 bind-marks : (levels : ℕ) (cs : List Child) → WellBundle cs
-    → contentClean (suc levels) bindText (encodeChildren cs) ≡ (typesClean (count (encodeChildren cs)) (headers (encodeChildren cs)) && all (childClean levels) cs)
+    → contentClean (suc levels) bindText (encodeChildren cs) ≡ (typesClean (childCount (encodeChildren cs)) (headers (encodeChildren cs)) && allOf (childClean levels) cs)
 unfolding bindClean
 bind-marks levels cs w =
     let s = encodeChildren cs in
     kind-clean (suc levels) bindText s Bind kind-bind
-    ∙ ap (λ (b : Bool). typesClean (count s) (headers s) && b) (marks-list levels (count s) (headers s) (tableOf s) (dataOf s) ∙ ap (all (childClean levels)) (children-written cs w))
+    ∙ ap (λ (b : Bool). typesClean (childCount s) (headers s) && b) (marks-list levels (childCount s) (headers s) (tableOf s) (dataOf s) ∙ ap (allOf (childClean levels)) (children-written cs w))
 
 mutual
-  unfolding WellFormed encode IsClean all
+  unfolding WellFormed encode IsClean allOf
 
   clean-to : (levels : ℕ) (x : Content) → WellFormed x levels → contentClean levels (typeText x) (encode x) ≡ true → IsClean x
   clean-to levels (transform ws) w e = tt
@@ -57,18 +57,18 @@ mutual
   clean-to zero (bind cs) w e = absurd w
   clean-to (suc levels) (bind cs) w e =
       let s = encodeChildren (childList cs) in
-      let k = and-split (typesClean (count s) (headers s)) (all (childClean levels) (childList cs)) (sym (bind-marks levels (childList cs) (w .0)) ∙ e) in
+      let k = and-split (typesClean (childCount s) (headers s)) (allOf (childClean levels) (childList cs)) (sym (bind-marks levels (childList cs) (w .0)) ∙ e) in
       all-to levels cs (w .1) (types-clean-to (childList cs) (w .0) (k .0)) (k .1)
   clean-to levels (other t s) w e = tt
 
-  all-to : (levels : ℕ) (cs : Children) → WellChildren cs levels → Each CleanChild (childList cs) → all (childClean levels) (childList cs) ≡ true → AllClean cs
+  all-to : (levels : ℕ) (cs : Children) → WellChildren cs levels → Each CleanChild (childList cs) → allOf (childClean levels) (childList cs) ≡ true → AllClean cs
   all-to levels none w h e = tt
   all-to levels (more rest name x cs) w h e =
-      let k = and-split (contentClean levels (typeText x) (encode x)) (all (childClean levels) (childList cs)) e in
+      let k = and-split (contentClean levels (typeText x) (encode x)) (allOf (childClean levels) (childList cs)) e in
       (h .0, clean-to levels x (w .0) (k .0), all-to levels cs (w .1) (h .1) (k .1))
 
 mutual
-  unfolding WellFormed encode IsClean all
+  unfolding WellFormed encode IsClean allOf
 
   clean-from : (levels : ℕ) (x : Content) → WellFormed x levels → IsClean x → contentClean levels (typeText x) (encode x) ≡ true
   clean-from levels (transform ws) w h = kind-clean levels transformText (encode (transform ws)) Transform kind-transform
@@ -78,17 +78,17 @@ mutual
   clean-from (suc levels) (bind cs) w h =
       let s = encodeChildren (childList cs) in
       bind-marks levels (childList cs) (w .0)
-      ∙ and-join (typesClean (count s) (headers s)) (all (childClean levels) (childList cs)) (types-clean-from (childList cs) (w .0) (rests-from cs h)) (all-from levels cs (w .1) h)
+      ∙ and-join (typesClean (childCount s) (headers s)) (allOf (childClean levels) (childList cs)) (types-clean-from (childList cs) (w .0) (rests-from cs h)) (all-from levels cs (w .1) h)
   clean-from levels (other t s) w h = kind-clean levels t s Other (kind-other t (w .0))
 
   rests-from : (cs : Children) → AllClean cs → Each CleanChild (childList cs)
   rests-from none h = tt
   rests-from (more rest name x cs) h = (h .0, rests-from cs (h .2))
 
-  all-from : (levels : ℕ) (cs : Children) → WellChildren cs levels → AllClean cs → all (childClean levels) (childList cs) ≡ true
+  all-from : (levels : ℕ) (cs : Children) → WellChildren cs levels → AllClean cs → allOf (childClean levels) (childList cs) ≡ true
   all-from levels none w h = refl
   all-from levels (more rest name x cs) w h =
-      and-join (contentClean levels (typeText x) (encode x)) (all (childClean levels) (childList cs)) (clean-from levels x (w .0) (h .1)) (all-from levels cs (w .1) (h .2))
+      and-join (contentClean levels (typeText x) (encode x)) (allOf (childClean levels) (childList cs)) (clean-from levels x (w .0) (h .1)) (all-from levels cs (w .1) (h .2))
 
 -- ---- in the answer
 

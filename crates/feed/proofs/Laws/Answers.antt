@@ -10,7 +10,7 @@ use Rattle.header.specs.Check.{headerFault}
 use Rattle.header.proofs.Laws.Faults.{fault-passed}
 use Rattle.message.specs.declared.Layout.{Layout}
 use Rattle.message.specs.declared.Answer.{Answer}
-use Rattle.message.specs.Check.{readOf, refused}
+use Rattle.message.specs.MessageReader.{readOf, refused}
 use Rattle.message.proofs.Laws.Front.{read-whole-step}
 use Rattle.feed.specs.declared.Feed.{Feed}
 use Rattle.feed.specs.declared.PushAnswer.{PushAnswer}
@@ -19,7 +19,7 @@ use Rattle.feed.specs.declared.PushResult.{PushResult}
 use Rattle.feed.specs.Reading.{endOf}
 use Rattle.feed.specs.Push.{keeping, passing, stoppedFeed, pushOf, bufferOf}
 use Rattle.feed.specs.Runs.{run, after}
-use Rattle.feed.specs.Feeds.{Answers}
+use Rattle.feed.specs.FeedTheorems.{Answers}
 use Rattle.feed.proofs.Laws.Stores.{front-stored}
 use Rattle.feed.proofs.Laws.Rows.{Row, refuses, passes, passed, short, wrong, begins, exceeds, part, whole, row}
 use Rattle.feed.proofs.Laws.Pushes.{readIn, apart, same-front, Whole, whole-front, wrong-front, read-of-front, writes, refusals}

@@ -14,7 +14,7 @@ use Rattle.header.specs.declared.HeaderRead.{HeaderRead}
 use Rattle.header.specs.Check.{headerOf, headerFault, headerRead}
 use Rattle.header.proofs.Laws.Faults.{fault-passed, header-read-passed, header-read-number}
 use Rattle.message.specs.declared.Layout.{Layout}
-use Rattle.message.specs.Check.{readOf, refused}
+use Rattle.message.specs.MessageReader.{readOf, refused}
 use Rattle.feed.specs.declared.Feed.{Feed}
 use Rattle.feed.specs.declared.OpenAnswer.the-variants as opening
 use Rattle.feed.specs.declared.PushAnswer.the-variants.{Nothing, Read, Refused}

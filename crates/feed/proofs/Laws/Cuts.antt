@@ -13,13 +13,13 @@ use Rattle.header.specs.Check.{headerFault}
 use Rattle.header.proofs.Laws.Faults.{fault-passed}
 use Rattle.message.specs.declared.Layout.{Layout}
 use Rattle.message.specs.declared.Answer.{Answer}
-use Rattle.message.specs.Check.{readOf, refused}
+use Rattle.message.specs.MessageReader.{readOf, refused}
 use Rattle.feed.specs.declared.Feed.{Feed}
 use Rattle.feed.specs.declared.PushResult.{PushResult}
 use Rattle.feed.specs.Push.{keeping, passing, stoppedFeed, openOf, pushFault, keptIn, pushOf, storedIn}
 use Rattle.feed.specs.Reading.{Reading, endOf, answerFor, behind, readingOf}
 use Rattle.feed.specs.Runs.{Run, answered, after, runOn, opened, run, readBy}
-use Rattle.feed.specs.Feeds.{Cuts}
+use Rattle.feed.specs.FeedTheorems.{Cuts}
 use Rattle.feed.proofs.Laws.Stores.{front-stored, take-behind}
 use Rattle.feed.proofs.Laws.Rows.{Row, refuses, passes, passed, short, wrong, begins, exceeds, part, whole, row}
 use Rattle.feed.proofs.Laws.Pushes.{same-front, grown, Whole, whole-of, whole-front, writes, fault-stopped, fault-none}

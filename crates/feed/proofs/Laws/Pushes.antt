@@ -19,7 +19,7 @@ use Rattle.header.specs.Check.{headerFault}
 use Rattle.header.proofs.Laws.Faults.{fault-passed}
 use Rattle.header.proofs.Laws.Front.{header-front, fault-front}
 use Rattle.message.specs.declared.Answer.{Answer}
-use Rattle.message.specs.Check.{readOf, refused, frontFault}
+use Rattle.message.specs.MessageReader.{readOf, refused, frontFault}
 use Rattle.message.proofs.Laws.Read.{header-refused}
 use Rattle.message.proofs.Laws.Front.{front-pass, read-whole-step, read-front}
 use Rattle.feed.specs.declared.Feed.{Feed}
@@ -28,7 +28,7 @@ use Rattle.feed.specs.declared.PushAnswer.the-variants.{Nothing, Read, R
 use Rattle.feed.specs.declared.PushResult.{PushResult}
 use Rattle.feed.specs.Reading.{endOf}
 use Rattle.feed.specs.Push.{pushed, pushFault, keptIn, pushOf, storedIn}
-use Rattle.feed.specs.Feeds.{Takes, Writes, Refuses}
+use Rattle.feed.specs.FeedTheorems.{Takes, Writes, Refuses}
 use Rattle.feed.proofs.Laws.Stores.{front-stored}
 use Rattle.feed.proofs.Laws.Rows.{Row, refuses, passes, passed, short, wrong, begins, exceeds, part, whole, row}
 

@@ -14,7 +14,7 @@ use Rattle.header.proofs.Laws.Faults.{fault-short}
 use Rattle.header.proofs.Laws.Front.{fault-whole}
 use Rattle.message.specs.declared.Layout.{Layout}
 use Rattle.message.specs.declared.Answer.{Answer}
-use Rattle.message.specs.Check.{readOf, refused}
+use Rattle.message.specs.MessageReader.{readOf, refused}
 use Rattle.message.proofs.Laws.Stream.{step-within}
 use Rattle.message.proofs.Laws.Read.{header-refused}
 use Rattle.message.proofs.Laws.Front.{read-front, read-begun, read-whole-step}

@@ -11,7 +11,7 @@ use Rattle.fields.proofs.Laws.Tests.{by-test, by-zero, cond-yes, cond-no}
 use Rattle.header.specs.Check.{headerFault}
 use Rattle.header.proofs.Laws.Faults.{fault-short, fault-passed}
 use Rattle.message.specs.declared.Layout.{Layout}
-use Rattle.message.specs.Check.{readOf, refused}
+use Rattle.message.specs.MessageReader.{readOf, refused}
 use Rattle.feed.specs.declared.Feed.{Feed}
 use Rattle.feed.specs.declared.PushAnswer.the-variants.{Nothing, Read, Refused}
 use Rattle.feed.specs.declared.PushResult.{PushResult}

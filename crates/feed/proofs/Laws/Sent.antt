@@ -10,13 +10,13 @@ use Rattle.fields.proofs.Laws.Tests.{by-zero}
 use Rattle.message.specs.declared.Layout.{Layout}
 use Rattle.message.specs.declared.Answer.{Answer}
 use Rattle.message.specs.Message.{WellFormed, Message, encode}
-use Rattle.message.specs.Check.{frontFault, readOf}
+use Rattle.message.specs.MessageReader.{frontFault, readOf}
 use Rattle.message.specs.Demand2.{Begins}
 use Rattle.message.proofs.Laws.Read.{front-refused}
 use Rattle.message.proofs.Laws.Front.{front-passed, read-whole-step}
 use Rattle.message.proofs.Laws.Messages.{demand-2}
 use Rattle.feed.specs.Reading.{Reading, behind, readingOf}
-use Rattle.feed.specs.Feeds.{Sent}
+use Rattle.feed.specs.FeedTheorems.{Sent}
 use Rattle.feed.proofs.Laws.Pushes.{Whole}
 use Rattle.feed.proofs.Laws.Readings.{answer-fits, reading-message, reading-short}
 use Rattle.feed.proofs.Laws.Cuts.{cuts}

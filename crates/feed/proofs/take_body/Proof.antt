@@ -4,7 +4,7 @@ use mathlib.Core.Path.{ap, _∙_}
 use native.Mathlib.Omega.{arith}
 use lib.ListN.{length}
 use borrow.Author.Needs.{needs}
-use Rattle.message.specs.Check.{readOf}
+use Rattle.message.specs.MessageReader.{readOf}
 use Rattle.feed.specs.declared.Feed.{Feed}
 use Rattle.feed.specs.declared.PushAnswer.the-variants.{Nothing, Read}
 use Rattle.feed.specs.Push.{pushed}

@@ -1,4 +1,4 @@
--- Layouts, for any number of fields.
+-- LayoutTheorems, for any number of fields.
 use Prim.Native.Nat.{ℕ, suc, _+_, _≤_}
 use mathlib.Core.Path.{_≡_, refl, sym, ap, ap₂, _∙_}
 use mathlib.Core.List.{List, [], _∷_, _++_, map, append-assoc}

@@ -10,7 +10,7 @@ use native.Mathlib.Numerals.{add-one}
 use lib.ListN.{length, getD, take, drop, length-append, take-append-drop, drop-of-length-le}
 use lib.Seq.{take-suc, take-all, drop-cons}
 use Rattle.fields.specs.Bytes.{same}
-use Rattle.fields.specs.Lists.{all, any, Each, flat}
+use Rattle.fields.specs.Lists.{allOf, anyOf, Each, flat}
 use Rattle.fields.proofs.Laws.Bytes.{same-eq, same-differ}
 use Rattle.fields.proofs.Laws.Checks.{and-split, and-join}
 use Rattle.fields.proofs.Laws.Tests.{by-test}
@@ -18,42 +18,42 @@ use Rattle.fields.proofs.Laws.Tests.{by-test}
 -- ---- a test at each element, as a loop makes it: what it is from place i on
 
 module _ {A : Type 0} (p : A → Bool) where
-  pub all-step : (xs : List A) (i : ℕ) (d : A) → i < length xs → p (getD xs i d) ≡ true → all p (drop i xs) ≡ all p (drop (i + 1) xs)
-  unfolding all
+  pub all-step : (xs : List A) (i : ℕ) (d : A) → i < length xs → p (getD xs i d) ≡ true → allOf p (drop i xs) ≡ allOf p (drop (i + 1) xs)
+  unfolding allOf
   all-step xs i d h e = rw (add-one i, drop-cons xs i d h, e) refl
 
-  pub all-stop : (xs : List A) (i : ℕ) (d : A) → i < length xs → p (getD xs i d) ≡ false → all p (drop i xs) ≡ false
-  unfolding all
+  pub all-stop : (xs : List A) (i : ℕ) (d : A) → i < length xs → p (getD xs i d) ≡ false → allOf p (drop i xs) ≡ false
+  unfolding allOf
   all-stop xs i d h e = rw (drop-cons xs i d h, e) refl
 
-  pub all-end : (xs : List A) (i : ℕ) → length xs ≤ i → all p (drop i xs) ≡ true
-  unfolding all
+  pub all-end : (xs : List A) (i : ℕ) → length xs ≤ i → allOf p (drop i xs) ≡ true
+  unfolding allOf
   all-end xs i h = rw (drop-of-length-le xs h) refl
 
-  pub any-step : (xs : List A) (i : ℕ) (d : A) → i < length xs → p (getD xs i d) ≡ false → any p (drop i xs) ≡ any p (drop (i + 1) xs)
-  unfolding any
+  pub any-step : (xs : List A) (i : ℕ) (d : A) → i < length xs → p (getD xs i d) ≡ false → anyOf p (drop i xs) ≡ anyOf p (drop (i + 1) xs)
+  unfolding anyOf
   any-step xs i d h e = rw (add-one i, drop-cons xs i d h, e) refl
 
-  pub any-stop : (xs : List A) (i : ℕ) (d : A) → i < length xs → p (getD xs i d) ≡ true → any p (drop i xs) ≡ true
-  unfolding any
+  pub any-stop : (xs : List A) (i : ℕ) (d : A) → i < length xs → p (getD xs i d) ≡ true → anyOf p (drop i xs) ≡ true
+  unfolding anyOf
   any-stop xs i d h e = rw (drop-cons xs i d h, e) refl
 
-  pub any-end : (xs : List A) (i : ℕ) → length xs ≤ i → any p (drop i xs) ≡ false
-  unfolding any
+  pub any-end : (xs : List A) (i : ℕ) → length xs ≤ i → anyOf p (drop i xs) ≡ false
+  unfolding anyOf
   any-end xs i h = rw (drop-of-length-le xs h) refl
 
 -- ---- a test and the rule that it tests
 
 module _ {A : Type 0} (p : A → Bool) (P : A → Type 0) where
-  pub all-each : ((x : A) → p x ≡ true → P x) → (xs : List A) → all p xs ≡ true → Each P xs
-  unfolding all
+  pub all-each : ((x : A) → p x ≡ true → P x) → (xs : List A) → allOf p xs ≡ true → Each P xs
+  unfolding allOf
   all-each f [] h = tt
-  all-each f (x ∷ xs) h = let k = and-split (p x) (all p xs) h in (f x (k .0), all-each f xs (k .1))
+  all-each f (x ∷ xs) h = let k = and-split (p x) (allOf p xs) h in (f x (k .0), all-each f xs (k .1))
 
-  pub each-all : ((x : A) → P x → p x ≡ true) → (xs : List A) → Each P xs → all p xs ≡ true
-  unfolding all
+  pub each-all : ((x : A) → P x → p x ≡ true) → (xs : List A) → Each P xs → allOf p xs ≡ true
+  unfolding allOf
   each-all f [] h = refl
-  each-all f (x ∷ xs) h = and-join (p x) (all p xs) (f x (h .0)) (each-all f xs (h .1))
+  each-all f (x ∷ xs) h = and-join (p x) (allOf p xs) (f x (h .0)) (each-all f xs (h .1))
 
 -- the rule of the first elements
 pub each-take : {A : Type 0} (P : A → Type 0) (k : ℕ) (xs : List A) → Each P xs → Each P (take k xs)

@@ -9,7 +9,7 @@ use lib.Dec.{eqb, leb}
 use lib.ListN.{length, take, drop, replicate, length-append, length-drop, length-replicate, take-append-drop}
 use lib.Seq.{drop-at}
 use borrow.Author.Tests.{eqb-true, eqb-false, ne-eqb, leb-true, leb-false}
-use Rattle.fields.specs.Lists.{all}
+use Rattle.fields.specs.Lists.{allOf}
 use Rattle.fields.specs.Bytes.{Bytes, part, sized}
 use Rattle.fields.specs.Text.{Text, isText, textOf, pastText, allZero, textOk, textClean, fieldOk, textBytes}
 use Rattle.fields.specs.declared.text.TextField.{TextField}
@@ -164,7 +164,7 @@ fieldBytes-zeros w t =
 
 -- what stands from the first 0 on is zeros if what stands behind that 0 is
 pub rest-clean : (f : List ℕ) → allZero (restOf f) ≡ textClean f
-unfolding textClean textOf pastText allZero all
+unfolding textClean textOf pastText allZero allOf
 rest-clean [] = refl
 rest-clean (b ∷ bs) =
     by-test (eqb b 0)

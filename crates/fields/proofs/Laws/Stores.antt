@@ -10,7 +10,7 @@ use lib.ListN.{replicate, length, getD, take, drop, set, take-append-drop, drop-
 use lib.Seq.{sets, length-sets, sets-eq, set-out, set-comm, set-set, getD-set-other, take-suc, take-set-le, length-take-le}
 use Rattle.fields.specs.Bytes.{sized}
 use Rattle.fields.specs.Lists.{flat}
-use Rattle.fields.specs.Layout.{join, Widths, stores, Layouts}
+use Rattle.fields.specs.Layout.{join, Widths, stores, LayoutTheorems}
 use Rattle.fields.proofs.Laws.Layout.{join-cut, cut-join}
 use Rattle.fields.proofs.Laws.Lists.{flat-next}
 use Rattle.fields.proofs.Laws.Bytes.{sized-zero, sized-cons, sized-nil}
@@ -43,8 +43,8 @@ stores-join out at (x ∷ xs) (w ∷ ws) h =
     ∙ sym (sets-append out at x (join xs))
 
 -- the laws of layouts, as they are stated
-pub layouts : Layouts
-layouts =
+pub layout-theorems : LayoutTheorems
+layout-theorems =
     record {
       read-back = λ before fields widths after h. cut-join before fields widths after (length before) refl h;
       written-back = join-cut;

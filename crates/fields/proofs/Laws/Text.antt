@@ -10,7 +10,7 @@ use lib.ListN.{length, getD, take, drop, replicate, drop-of-length-le, length-ta
 use lib.Seq.{drop-cons, take-all}
 use borrow.Author.Tests.{eqb-true, eqb-false, leb-true, ltb-true, lt-ltb, le-ltb, ne-eqb, eq-eqb}
 use Rattle.fields.specs.Bytes.{part, sized}
-use Rattle.fields.specs.Lists.{all, Each}
+use Rattle.fields.specs.Lists.{allOf, Each}
 use Rattle.fields.specs.Text.{textByte, isText, Text, textOf, pastText, zeroByte, allZero, textOk, textClean, fieldOk, textBytes, TextFields}
 use Rattle.fields.proofs.Laws.Bytes.{length-part, length-sized, sized-zero, sized-cons, sized-nil}
 use Rattle.fields.proofs.Laws.Checks.{and-split, and-join}
@@ -53,7 +53,7 @@ unfolding allZero
 zeros-all s h = zeros-each s (all-each zeroByte (λ b. b ≡ 0) zero-byte s h)
 
 pub all-zeros : (n : ℕ) → allZero (replicate n 0) ≡ true
-unfolding allZero all
+unfolding allZero allOf
 all-zeros zero = refl
 all-zeros (suc n) = all-zeros n
 
@@ -171,7 +171,7 @@ clean-text f h = sized-text f h
 -- ---- a text's field passes both, and its text is that text
 
 none : (textOf [] ≡ []) × (allZero (pastText []) ≡ true)
-unfolding textOf pastText allZero all
+unfolding textOf pastText allZero allOf
 none = (refl, refl)
 
 sized-of : (w : ℕ) (t : List ℕ) → Text t → (textOf (sized w t) ≡ take w t) × (allZero (pastText (sized w t)) ≡ true)

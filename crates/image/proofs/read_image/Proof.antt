@@ -8,22 +8,22 @@ use Rattle.image.proofs.Laws.{read-kept, read-refused}
 use Rattle.image.proofs.read_image.Statement.{statement}
 use Rattle.image.proofs.read_image.Tie as tie
 
-image-number-requires : tie.Need-image-number-requires
-image-number-requires c κs = search needs
+image-fault-requires : tie.Need-image-fault-requires
+image-fault-requires c κs = search needs
 
 no-header-requires : tie.Need-no-header-requires
 no-header-requires c κs = search needs
 
 returns : tie.Need-returns
-returns c = ap₂ {C = ImageRead} (λ (n : ℕ) (h : ImageHeader). record { number = n; header = h }) (c .before .before .image-number .ensures) (c .no-header .ensures) ∙ sym (read-refused _ (λ e. c .before .if1 .taken (c .before .before .image-number .ensures ∙ e)))
+returns c = ap₂ {C = ImageRead} (λ (n : ℕ) (h : ImageHeader). record { number = n; header = h }) (c .before .before .image-fault .ensures) (c .no-header .ensures) ∙ sym (read-refused _ (λ e. c .before .if1 .taken (c .before .before .image-fault .ensures ∙ e)))
 
 header-of-requires : tie.Need-header-of-requires
 header-of-requires c κs = search needs
 
 returns-2 : tie.Need-returns-2
-returns-2 c = ap₂ {C = ImageRead} (λ (n : ℕ) (h : ImageHeader). record { number = n; header = h }) (c .before .before .image-number .ensures) (c .header-of .ensures) ∙ sym (read-kept _ (sym (c .before .before .image-number .ensures) ∙ c .before .if1 .left))
+returns-2 c = ap₂ {C = ImageRead} (λ (n : ℕ) (h : ImageHeader). record { number = n; header = h }) (c .before .before .image-fault .ensures) (c .header-of .ensures) ∙ sym (read-kept _ (sym (c .before .before .image-fault .ensures) ∙ c .before .if1 .left))
 
 pub read-image-spec : {M : Type 1} → statement M
 read-image-spec =
     tie.close
-    (tie.spec image-number-requires no-header-requires returns header-of-requires returns-2)
+    (tie.spec image-fault-requires no-header-requires returns header-of-requires returns-2)

@@ -2,7 +2,7 @@
 use mathlib.Core.Path.{ap, _∙_}
 use borrow.Author.Needs.{needs}
 use Rattle.message.specs.declared.Layout.the-variants.{New}
-use Rattle.message.specs.Check.{readOf}
+use Rattle.message.specs.MessageReader.{readOf}
 use Rattle.listing.proofs.list_at.Statement.{statement}
 use Rattle.listing.proofs.list_at.Tie as tie
 

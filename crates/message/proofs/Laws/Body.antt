@@ -18,13 +18,13 @@ use Rattle.fields.proofs.Laws.Layout.{join-cut, cut-join, length-join}
 use Rattle.fields.proofs.Laws.Stores.{stores-join}
 use Rattle.fields.proofs.Laws.Checks.{and-split, and-join, cond-pass}
 use Rattle.fields.proofs.Laws.Tests.{is-false, by-test}
-use Rattle.metadata.specs.Check.{indexIn}
+use Rattle.metadata.specs.MetadataCheck.{indexIn}
 use Rattle.message.specs.declared.Layout.{Layout}
 use Rattle.message.specs.declared.extended.ExtendedNumbers.{ExtendedNumbers}
 use Rattle.message.specs.declared.body.Places.{Places}
 use Rattle.message.specs.Body.{Sections, extendedNumbers, extendedFields, encodeBody, Plain, MetadataFits, Extended, WellSections}
-use Rattle.message.specs.Check.{extendedSize, indexAt, sectionSize, idAt, reservedOk, indexFault, extendedOk, bodyFault, sizesFault, extendedPlaces, plainPlaces, placesOf, sectionsAt, sectionsOf}
-use Rattle.message.specs.Bodies.{IsVersion, BreaksExtended, Agrees, Bodies}
+use Rattle.message.specs.MessageReader.{extendedSize, indexAt, sectionSize, idAt, reservedOk, indexFault, extendedOk, bodyFault, sizesFault, extendedPlaces, plainPlaces, placesOf, sectionsAt, sectionsOf}
+use Rattle.message.specs.BodyTheorems.{IsVersion, BreaksExtended, Agrees, BodyTheorems}
 use Rattle.message.proofs.Laws.Layout.{NumbersAt, numbers-fit, ReadAs, numbers-read, numbers-back, id-lt, section-fits, reserved-set, index-agreed, index-disagreed, index-seven, index-passed, agrees-1, extended-same, numbers-same}
 
 -- ---- the version
@@ -360,8 +360,8 @@ length-1 l v k x h = ap length (body-1 l v k x h)
 pub length-2 : (l : Layout) (v k : ℕ) (x : Sections) → v ≡ 2 → length (encodeBody l v k x) ≡ 12 + length (x .further) + length (x .content) + length (x .metadata)
 length-2 l v k x h = ap length (body-2 l v k x h) ∙ length-extended l k x
 
-pub bodies : (l : Layout) → Bodies l
-bodies l =
+pub body-theorems : (l : Layout) → BodyTheorems l
+body-theorems l =
     record {
       accepted = body-accepted l;
       written-back = body-back l;

@@ -16,7 +16,7 @@ use Rattle.header.specs.Check as header
 use Rattle.header.specs.Check.{headerOf, headerFault}
 use Rattle.header.proofs.Laws.Front.{header-front, fault-front}
 use Rattle.message.specs.declared.Layout.{Layout}
-use Rattle.message.specs.Check.{bodyChecks, bodyClean, bodyAt, frontFault, numberOf, stepOf, placesOf, refused, accepted, readOf}
+use Rattle.message.specs.MessageReader.{bodyChecks, bodyClean, bodyAt, frontFault, numberOf, stepOf, placesOf, refused, accepted, readOf}
 use Rattle.message.proofs.Laws.Stream.{is-some, whole-pass, whole-passed, whole-refused, step-whole, read-step}
 use Rattle.message.proofs.Laws.Read.{front-refused}
 

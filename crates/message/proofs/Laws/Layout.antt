@@ -14,15 +14,15 @@ use Rattle.fields.specs.Numbers.{beVal, beAt}
 use Rattle.fields.proofs.Laws.Numbers.{beAt-lt}
 use Rattle.fields.proofs.Laws.Checks.{cond-pass, cond-refused}
 use Rattle.header.specs.Header.{limit}
-use Rattle.metadata.specs.Check.{count, indexIn}
+use Rattle.metadata.specs.MetadataCheck.{indexCount, indexIn}
 use Rattle.message.specs.declared.Layout.{Layout}
 use Rattle.message.specs.declared.Layout.the-variants.{New, Old}
 use Rattle.message.specs.declared.extended.ExtendedNumbers.{ExtendedNumbers}
 use Rattle.message.specs.Body.{Sections, extendedNumbers, MetadataFits, Extended}
-use Rattle.message.specs.Check.{indexAt, sectionSize, idAt, reservedOk, indexFault}
-use Rattle.message.specs.Bodies.{Agrees}
-use Rattle.message.specs.Writer.{sizeFits}
-use Rattle.message.specs.Numbers.{SizeUnfit, HasIndex}
+use Rattle.message.specs.MessageReader.{indexAt, sectionSize, idAt, reservedOk, indexFault}
+use Rattle.message.specs.BodyTheorems.{Agrees}
+use Rattle.message.specs.MessageWriter.{sizeFits}
+use Rattle.message.specs.MessageNumbers.{SizeUnfit, HasIndex}
 
 -- these numbers stand in a body
 pub record NumbersAt (b : List ℕ) (e : ExtendedNumbers) : Type 0 where
@@ -129,16 +129,16 @@ has-index New v s h = λ _. h
 has-index Old v s h = tt
 
 -- by INDEX_COUNT
-index-some : (s : List ℕ) → 0 < count s → indexIn s ≡ 2 + 8 * count s
+index-some : (s : List ℕ) → 0 < indexCount s → indexIn s ≡ 2 + 8 * indexCount s
 unfolding indexIn beVal
 index-some [] h = omega (arith, h)
 index-some (x ∷ s) h = simp (ne-eqb (length (x ∷ s)) 0 (λ e. omega (arith, e)))
 
-index-most : (s : List ℕ) → indexIn s ≤ 2 + 8 * count s
+index-most : (s : List ℕ) → indexIn s ≤ 2 + 8 * indexCount s
 unfolding indexIn beVal
 index-most [] = omega arith
 index-most (x ∷ s) =
-    let e : indexIn (x ∷ s) ≡ 2 + 8 * count (x ∷ s) = simp (ne-eqb (length (x ∷ s)) 0 (λ z. omega (arith, z))) in
+    let e : indexIn (x ∷ s) ≡ 2 + 8 * indexCount (x ∷ s) = simp (ne-eqb (length (x ∷ s)) 0 (λ z. omega (arith, z))) in
     omega (arith, e)
 
 pub unfit-size : (l : Layout) (s : List ℕ) → SizeUnfit l s → sizeFits l (indexIn s) (length s) ≡ true → ⊥
@@ -147,6 +147,6 @@ unfit-size Old s u h = omega (arith, u, leb-true (length s) 65535 h)
 
 pub fit-size : (l : Layout) (s : List ℕ) → (SizeUnfit l s → ⊥) → sizeFits l (indexIn s) (length s) ≡ true
 fit-size New s h =
-    let n : count s < 8192 = lt-of-not-le (λ k. h (omega (arith, k))) in
+    let n : indexCount s < 8192 = lt-of-not-le (λ k. h (omega (arith, k))) in
     le-leb (indexIn s) 65535 (omega (arith, n, index-most s))
 fit-size Old s h = le-leb (length s) 65535 (omega (arith, lt-of-not-le h))

@@ -21,27 +21,27 @@ use Rattle.crc64.proofs.Laws.{crc-lt}
 use Rattle.header.specs.Header.{Header, WellTexts, HeaderFits, WellHeader, limit}
 use Rattle.header.specs.Check.{headerOf, namesFault, limitFault}
 use Rattle.metadata.specs.Metadata.{encodeMetadata, indexSize}
-use Rattle.metadata.specs.Check.{indexIn, metadataFault}
-use Rattle.metadata.specs.Metadatas.{IsMetadata}
+use Rattle.metadata.specs.MetadataCheck.{indexIn, metadataFault}
+use Rattle.metadata.specs.MetadataTheorems.{IsMetadata}
 use Rattle.content.specs.Tree.{typeText}
 use Rattle.content.specs.Tree as tree
-use Rattle.content.specs.Check.{contentClean, deepest}
-use Rattle.content.specs.Contents.{IsContent}
-use Rattle.content.proofs.Contents.{contents}
+use Rattle.content.specs.ContentCheck.{contentClean, deepest}
+use Rattle.content.specs.ContentTheorems.{IsContent}
+use Rattle.content.proofs.ContentTheorems.{content-theorems}
 use Rattle.content.proofs.Laws.Cleaned.{cleaned-type, length-cleaned}
 use Rattle.content.proofs.Laws.Marks.{content-mark, mark-to, mark-from}
-use Rattle.cleaning.proofs.Laws.Cleanings.{cleanings}
+use Rattle.cleaning.proofs.Laws.CleaningTheorems.{cleaning-theorems}
 use Rattle.message.specs.declared.Layout.{Layout}
 use Rattle.message.specs.declared.Answer.{Answer}
 use Rattle.message.specs.declared.body.Places.{Places}
 use Rattle.message.specs.Body.{Sections, WellSections}
 use Rattle.message.specs.Message.{Message, Parts, partsOf, bodyOf, headerFor, encodeWith, messageBody, encode, WellFormed, RestsFill, cleaned, Clean, handedOut}
-use Rattle.message.specs.Check.{indexAt, versionFault, sectionsFault, sectionsOf, bodyAt, numberOf, readOf, handed, placesOf}
-use Rattle.message.specs.Writer.{bodyLength, bodyGiven, encodeParts, cleanParts, fitFault, sectionsChecks, writeChecks, writeFault, messageWritten, messageOut}
+use Rattle.message.specs.MessageReader.{indexAt, versionFault, sectionsFault, sectionsOf, bodyAt, numberOf, readOf, handed, placesOf}
+use Rattle.message.specs.MessageWriter.{bodyLength, bodyGiven, encodeParts, cleanParts, fitFault, sectionsChecks, writeChecks, writeFault, messageWritten, messageOut}
 use Rattle.message.specs.Demand2.{Begins, givenBack, Demand2}
 use Rattle.header.proofs.Laws.Layout.{header-fits, fits-texts}
 use Rattle.header.proofs.Laws.Faults.{names-pass, limit-pass}
-use Rattle.metadata.proofs.Laws.Metadatas.{metadatas}
+use Rattle.metadata.proofs.Laws.MetadataTheorems.{metadata-theorems}
 use Rattle.message.proofs.Laws.Body.{body-accepted, well-same}
 use Rattle.message.proofs.Laws.Stream.{Accepted, number-accepted, read-accepted, read-refused, read-number, number-read, version-pass, partsAt, zeroTexts, handed-parts, cleanFor, read-mark, indexOf, sizes-agree, body-read-back, parts-back, whole-header}
 use Rattle.message.proofs.Laws.Writer.{length-body, well-fit, well-version, length-parts, parts-front, parts-number, checks-sections, parts-read}
@@ -69,12 +69,12 @@ well-texts l m w = fits-texts (headerFor l (indexSize (m .metadata)) (partsOf m)
 sections-passed : (l : Layout) (m : Message) → WellFormed l m → sectionsFault (typeText (m .content)) (partsOf m .sections) ≡ 0
 unfolding sectionsFault
 sections-passed l m w =
-    else-zero (metadataFault (encodeMetadata (m .metadata))) _ (metadatas .well-accepted (m .metadata) (w .metadata))
-    (contents .well-accepted deepest (m .content) (w .content))
+    else-zero (metadataFault (encodeMetadata (m .metadata))) _ (metadata-theorems .well-accepted (m .metadata) (w .metadata))
+    (content-theorems .well-accepted deepest (m .content) (w .content))
 
 -- the index's size is the one that its bytes have, so that its bytes are those of its parts
 index-of : (l : Layout) (m : Message) → WellFormed l m → indexOf (partsOf m) ≡ indexSize (m .metadata)
-index-of l m w = metadatas .index-in (m .metadata) (w .metadata)
+index-of l m w = metadata-theorems .index-in (m .metadata) (w .metadata)
 
 same-bytes : (l : Layout) (m : Message) → WellFormed l m → encodeParts l (partsOf m) ≡ encode l m
 same-bytes l m w = ap (λ (k : ℕ). encodeWith l k (partsOf m)) (index-of l m w)
@@ -136,8 +136,8 @@ accepted-message l s b a =
     let q : Places = placesOf l v (bodyAt s) in
     let bc : Bytes (x .content) = bytes-part (q .«content_len») (q .«content_at») (bodyAt s) bb in
     let bm : Bytes (x .metadata) = bytes-part (q .«metadata_len») (q .«metadata_at») (bodyAt s) bb in
-    let c : IsContent deepest (h .typeText) (x .content) = contents .accepted deepest (h .typeText) (x .content) bc (a .content) in
-    let d : IsMetadata (x .metadata) = metadatas .accepted (x .metadata) bm (a .metadata) in
+    let c : IsContent deepest (h .typeText) (x .content) = content-theorems .accepted deepest (h .typeText) (x .content) bc (a .content) in
+    let d : IsMetadata (x .metadata) = metadata-theorems .accepted (x .metadata) bm (a .metadata) in
     let w : WellHeader h = header-fits s b (a .header) in
     let m : Message =
     record {
@@ -162,7 +162,7 @@ accepted-message l s b a =
       timeStamp = h .timeStamp;
       sections = y i;
     } in
-    let k : indexSize (d .metadata) ≡ indexOf (partsAt l s) = sym (metadatas .index-in (d .metadata) (d .well)) ∙ ap indexIn (d .bytes) in
+    let k : indexSize (d .metadata) ≡ indexOf (partsAt l s) = sym (metadata-theorems .index-in (d .metadata) (d .well)) ∙ ap indexIn (d .bytes) in
     let g : WellSections l v (indexIn (x .metadata)) x =
     well-same l v (indexAt (bodyAt s)) x (x .metadata) (sizes-agree l s a) (body-accepted l v (bodyAt s) bb (a .version) (a .body)) in
     let n : length (messageBody l m) ≡ h .bodySize =
@@ -193,9 +193,9 @@ accepted-message l s b a =
 parts-unique : (l : Layout) (m n : Message) → WellFormed l m → WellFormed l n → partsOf m ≡ partsOf n → m ≡ n
 parts-unique l m n wm wn e =
     let c : m .content ≡ n .content =
-    contents .unique deepest deepest (m .content) (n .content) (wm .content) (wn .content) (ap (λ (p : Parts). p .typeText) e) (ap (λ (p : Parts). p .sections .content) e) in
+    content-theorems .unique deepest deepest (m .content) (n .content) (wm .content) (wn .content) (ap (λ (p : Parts). p .typeText) e) (ap (λ (p : Parts). p .sections .content) e) in
     let d : m .metadata ≡ n .metadata =
-    metadatas .unique (m .metadata) (n .metadata) (wm .metadata) (wn .metadata) (ap (λ (p : Parts). p .sections .metadata) e) in
+    metadata-theorems .unique (m .metadata) (n .metadata) (wm .metadata) (wn .metadata) (ap (λ (p : Parts). p .sections .metadata) e) in
     λ i.
     record {
       version = e i .version;
@@ -258,7 +258,7 @@ cleaned-well l m w =
       name-fills = zeroed-fills 20 (m .deviceName) (m .nameRest) (w .name-fills);
       stamp-fits = w .stamp-fits;
       sections = other-content l (m .version) (indexSize (m .metadata)) (partsOf m .sections) (partsOf (cleaned m) .sections .content) (w .sections);
-      content = contents .cleaned-well deepest (m .content) (w .content);
+      content = content-theorems .cleaned-well deepest (m .content) (w .content);
       metadata = w .metadata;
       size-limit = subst (λ (n : ℕ). n ≤ limit) (sym (cleaned-length l m)) (w .size-limit);
     }
@@ -270,7 +270,7 @@ any-rests l m f w =
       name-fills = f .name-fills;
       stamp-fits = w .stamp-fits;
       sections = other-content l (m .version) (indexSize (m .metadata)) (partsOf (cleaned m) .sections) (partsOf m .sections .content) (w .sections);
-      content = contents .any-rests deepest (m .content) (f .content-fills) (w .content);
+      content = content-theorems .any-rests deepest (m .content) (f .content-fills) (w .content);
       metadata = w .metadata;
       size-limit = subst (λ (n : ℕ). n ≤ limit) (cleaned-length l m) (w .size-limit);
     }
@@ -280,12 +280,12 @@ cleaned-clean m =
     record {
       type-clean = zeroed-zeroed (m .typeRest);
       name-clean = zeroed-zeroed (m .nameRest);
-      content-clean = contents .cleaned-clean (m .content);
+      content-clean = content-theorems .cleaned-clean (m .content);
     }
 
 clean-kept : (m : Message) → Clean m → cleaned m ≡ m
 clean-kept m c =
-    let x = contents .clean-same (m .content) (c .content-clean) in
+    let x = content-theorems .clean-same (m .content) (c .content-clean) in
     λ i.
     record {
       version = m .version;
@@ -338,7 +338,7 @@ begun-answered l s m room b h =
 cleaned-parts : (l : Layout) (m : Message) → WellFormed l m → cleanParts (handedOut m) ≡ partsOf (cleaned m)
 cleaned-parts l m w =
     let t = cleaned-type (m .content) in
-    let x = cleanings .cleaned-bytes deepest (m .content) (w .content) in
+    let x = cleaning-theorems .cleaned-bytes deepest (m .content) (w .content) in
     λ i.
     record {
       version = m .version;
@@ -388,7 +388,7 @@ demand-2 l =
       meant = λ m w. (cleaned-well l m w, cleaned-clean m);
       kept = clean-kept;
       fills = λ m w.
-          record { type-fills = w .type-fills; name-fills = w .name-fills; content-fills = contents .fills deepest (m .content) (w .content) };
+          record { type-fills = w .type-fills; name-fills = w .name-fills; content-fills = content-theorems .fills deepest (m .content) (w .content) };
       any-rests = any-rests l;
       handed-out = begun-handed l;
       step = begun-step l;

@@ -22,17 +22,17 @@ use Rattle.crc64.specs.Crc.{crcOf}
 use Rattle.header.specs.Header.{Header, HeaderFits, encodeHeader, limit}
 use Rattle.header.specs.Check.{headerOf, namesFault, limitFault, headerOut}
 use Rattle.header.specs.Check as header
-use Rattle.metadata.specs.Check.{indexIn, metadataFault}
-use Rattle.metadata.proofs.Laws.Metadatas.{metadatas}
-use Rattle.content.specs.Check.{deepest}
+use Rattle.metadata.specs.MetadataCheck.{indexIn, metadataFault}
+use Rattle.metadata.proofs.Laws.MetadataTheorems.{metadata-theorems}
+use Rattle.content.specs.ContentCheck.{deepest}
 use Rattle.cleaning.proofs.Laws.Lengths.{length-clean}
 use Rattle.message.specs.declared.Layout.{Layout}
 use Rattle.message.specs.Body.{Sections, Plain, MetadataFits, WellSections, encodeBody}
 use Rattle.message.specs.Message.{Parts, bodyOf, headerFor, encodeWith}
-use Rattle.message.specs.Check.{versionFault, sizesFault, sectionsFault, foundFault, sectionsOf, bodyChecks, bodyAt, numberOf}
-use Rattle.message.specs.Writer.{bodyGiven, encodeParts, bodyLength, sizeFits, fits, fitOk, fitFault, sectionsChecks, writeChecks, writeFault, cleanParts, messageWritten, messageOut}
-use Rattle.message.specs.Bodies.{IsVersion}
-use Rattle.message.specs.Numbers.{HasIndex}
+use Rattle.message.specs.MessageReader.{versionFault, sizesFault, sectionsFault, foundFault, sectionsOf, bodyChecks, bodyAt, numberOf}
+use Rattle.message.specs.MessageWriter.{bodyGiven, encodeParts, bodyLength, sizeFits, fits, fitOk, fitFault, sectionsChecks, writeChecks, writeFault, cleanParts, messageWritten, messageOut}
+use Rattle.message.specs.BodyTheorems.{IsVersion}
+use Rattle.message.specs.MessageNumbers.{HasIndex}
 use Rattle.header.proofs.Laws.Layout.{length-header}
 use Rattle.header.proofs.Laws.Writer.{write-room, out-header}
 use Rattle.header.proofs.Laws.Faults.{limit-pass, limit-passed, limit-refused}
@@ -235,7 +235,7 @@ writable l p h =
 
 -- its metadata has its index
 pub written-index : (l : Layout) (p : Parts) → Writable l p → HasIndex l (p .version) (p .sections .metadata)
-written-index l p w = has-index l (p .version) (p .sections .metadata) (metadatas .index-within (p .sections .metadata) (w .metadata))
+written-index l p w = has-index l (p .version) (p .sections .metadata) (metadata-theorems .index-within (p .sections .metadata) (w .metadata))
 
 -- and the sizes fit their fields, where they are stored
 pub written-sizes : (l : Layout) (p : Parts) → Writable l p → p .version ≡ 2

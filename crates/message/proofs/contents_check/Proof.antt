@@ -7,13 +7,13 @@ use Rattle.fields.specs.Answer.{checked}
 use Rattle.fields.specs.Checks.{orElse}
 use Rattle.fields.proofs.Laws.Answer.{checked-same}
 use Rattle.fields.proofs.Laws.Checks.{else-first, else-second}
-use Rattle.metadata.specs.Check.{metadataFault}
-use Rattle.content.specs.Check.{contentFault, contentClean, contentChecked, deepest}
+use Rattle.metadata.specs.MetadataCheck.{metadataFault}
+use Rattle.content.specs.ContentCheck.{contentFault, contentClean, contentChecked, deepest}
 use Rattle.message.proofs.contents_check.Statement.{statement}
 use Rattle.message.proofs.contents_check.Tie as tie
 
-metadata-number-requires : tie.Need-metadata-number-requires
-metadata-number-requires c κs = search needs
+metadata-fault-requires : tie.Need-metadata-fault-requires
+metadata-fault-requires c κs = search needs
 
 marked-requires : tie.Need-marked-requires
 marked-requires c κs = search needs
@@ -23,8 +23,8 @@ returns c =
     let a = c .before .before .before .before .before .before .args in
     let m = metadataFault (a .metadata .now) in
     let x = contentFault deepest (a .type-text .now) (a .content .now) in
-    let e = c .before .before .metadata-number .ensures ∙ sym (else-first m x (λ z. c .before .if1 .taken (c .before .before .metadata-number .ensures ∙ z))) in
-    c .marked .ensures ∙ checked-same (c .before .before .metadata-number .result) (orElse m x) false (contentClean deepest (a .type-text .now) (a .content .now)) e (c .before .if1 .taken)
+    let e = c .before .before .metadata-fault .ensures ∙ sym (else-first m x (λ z. c .before .if1 .taken (c .before .before .metadata-fault .ensures ∙ z))) in
+    c .marked .ensures ∙ checked-same (c .before .before .metadata-fault .result) (orElse m x) false (contentClean deepest (a .type-text .now) (a .content .now)) e (c .before .if1 .taken)
 
 content-check-requires : tie.Need-content-check-requires
 content-check-requires c κs = search needs
@@ -36,8 +36,8 @@ returns-2 c =
     let m = metadataFault (a .metadata .now) in
     let x = contentFault deepest (a .type-text .now) (a .content .now) in
     c .content-check .ensures
-    ∙ ap (λ (n : ℕ). checked n (contentClean deepest (a .type-text .now) (a .content .now))) (sym (else-second m x (sym (c .before .before .metadata-number .ensures) ∙ c .before .if1 .left)))
+    ∙ ap (λ (n : ℕ). checked n (contentClean deepest (a .type-text .now) (a .content .now))) (sym (else-second m x (sym (c .before .before .metadata-fault .ensures) ∙ c .before .if1 .left)))
 
 pub contents-check-spec : {M : Type 1} → statement M
 contents-check-spec =
-    tie.close (tie.spec metadata-number-requires marked-requires returns content-check-requires returns-2)
+    tie.close (tie.spec metadata-fault-requires marked-requires returns content-check-requires returns-2)

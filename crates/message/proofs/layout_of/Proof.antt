@@ -1,7 +1,7 @@
 -- `message::layout_of` meets its contract: whether the number is 1.
 use mathlib.Core.Path.{sym}
 use borrow.Author.Tests.{eq-eqb, ne-eqb}
-use Rattle.message.specs.Layouts.{layoutOf}
+use Rattle.message.specs.LayoutNumber.{layoutOf}
 use Rattle.message.proofs.layout_of.Statement.{statement}
 use Rattle.message.proofs.layout_of.Tie as tie
 

@@ -1,7 +1,7 @@
 -- `message::write` meets its contract: the law of a writer's answer and buffer where a check refuses, or what the rest of it gives.
 use mathlib.Core.Path.{sym, _∙_}
 use borrow.Author.Needs.{needs}
-use Rattle.message.specs.Writer.{given}
+use Rattle.message.specs.MessageWriter.{given}
 use Rattle.message.proofs.Laws.Writer.{answers-checks}
 use Rattle.message.proofs.write.Statement.{statement}
 use Rattle.message.proofs.write.Tie as tie

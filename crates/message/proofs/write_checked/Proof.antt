@@ -2,7 +2,7 @@
 use mathlib.Core.Path.{sym, _∙_}
 use native.Mathlib.Omega.{arith}
 use borrow.Author.Needs.{needs}
-use Rattle.message.specs.Writer.{given}
+use Rattle.message.specs.MessageWriter.{given}
 use Rattle.message.proofs.Laws.Writer.{writable, length-given, answers-room, answers-written}
 use Rattle.message.proofs.write_checked.Statement.{statement}
 use Rattle.message.proofs.write_checked.Tie as tie

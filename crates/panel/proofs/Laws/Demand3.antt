@@ -14,7 +14,7 @@ use Rattle.fields.proofs.Laws.Tests.{by-zero, cond-cases}
 use Rattle.history.specs.Calls.{Call, look, OfBytes, green, grey}
 use Rattle.history.specs.Reading.{Reader}
 use Rattle.history.specs.History.{callAt, IsColoured, Answers}
-use Rattle.history.proofs.Laws.Readings.{readers}
+use Rattle.history.proofs.Laws.ReaderTheorems.{reader-theorems}
 use Rattle.history.proofs.Laws.Longer.{by-calls}
 use Rattle.history.proofs.Laws.Words.{words}
 use Rattle.room.proofs.Laws.Room.{Received, RoomTile, Room, roomAt, roomAfter}
@@ -112,7 +112,7 @@ each-at (suc k) (c ∷ cs) o = each-at k cs (o .1)
 pub demand-3 : Demand3
 demand-3 =
     record {
-      readers = readers;
+      readers = reader-theorems;
       words = words;
       claim = λ R cs o.
           record {

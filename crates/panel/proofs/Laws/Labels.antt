@@ -9,7 +9,7 @@ use lib.Dec.{leb}
 use lib.ListN.{length}
 use borrow.Author.Tests.{leb-true}
 use Rattle.fields.specs.Bytes.{same, sized}
-use Rattle.fields.specs.Lists.{all}
+use Rattle.fields.specs.Lists.{allOf}
 use Rattle.fields.specs.Text.{Text, isText, textBytes}
 use Rattle.fields.proofs.Laws.Bytes.{same-eq, same-refl, same-differ, not-same}
 use Rattle.fields.proofs.Laws.Checks.{and-split, or-split}
@@ -46,7 +46,7 @@ allowed t n h e =
     }
 
 pose-text : (t : List ℕ) → IsPose t → Text t × (length t ≤ 12)
-unfolding isText all
+unfolding isText allOf
 pose-text t p =
     ⊎-elim
     (λ e. (subst Text (sym e) (is-text transformText refl), omega (arith, ap length e)))

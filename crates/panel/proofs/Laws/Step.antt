@@ -11,16 +11,16 @@ use lib.ListN.{getD, set, length-map, length-set}
 use lib.Seq.{getD-set-same, getD-set-other}
 use borrow.Author.Tests.{eqb-true, eqb-false, eq-eqb, ne-eqb, leb-false}
 use Rattle.fields.specs.Bytes.{same, Bytes}
-use Rattle.fields.specs.Lists.{any}
+use Rattle.fields.specs.Lists.{anyOf}
 use Rattle.fields.proofs.Laws.Bytes.{same-eq}
 use Rattle.fields.proofs.Laws.Checks.{zero-else, cond-fault, cond-pass, and-split}
 use Rattle.fields.proofs.Laws.Tests.{by-test, by-zero, true-false, cond-cases}
-use Rattle.content.specs.Check.{deepest}
+use Rattle.content.specs.ContentCheck.{deepest}
 use Rattle.content.specs.Tree.{typeText}
 use Rattle.message.specs.declared.Layout.{Layout}
 use Rattle.message.proofs.Laws.Messages.{well-texts}
 use Rattle.message.specs.Message.{Message, WellFormed, encode}
-use Rattle.message.specs.Check.{readOf}
+use Rattle.message.specs.MessageReader.{readOf}
 use Rattle.message.specs.Demand2.{Begins}
 use Rattle.message.proofs.Laws.Stream.{read-number}
 use Rattle.history.specs.Calls.{Call, add, linkUp, linkDown, message, look, Entry, adding, noteOf, OfBytes, green, grey, Answer, refused, added, shown}
@@ -30,7 +30,7 @@ use Rattle.history.specs.Reading.{Reading, Reads, oneMessage, Reader}
 use Rattle.history.specs.Reading as reading
 use Rattle.history.specs.Summary.{tileAt, isOf, carries, isAllowed, allowedFault, clockFault, tileFault, readingNumber, readOn, numberOn}
 use Rattle.history.proofs.Laws.Places.{filled-at, changed-at}
-use Rattle.history.proofs.Laws.Readings.{begins-one, none-number}
+use Rattle.history.proofs.Laws.ReaderTheorems.{begins-one, none-number}
 use Rattle.room.proofs.Laws.Room.{Received, RoomTile, Room, roomAt, entryOf, bookOf, countedBy, shownBy, changed, answered, roomNext, roomAnswer}
 use Rattle.room.proofs.Laws.Room as room
 use Rattle.room.proofs.Laws.Component.{room-accepted, room-refused}
@@ -183,7 +183,7 @@ module _ (R : Reader) (p : Panel) (m : Room) (T : Agrees p m) where
         not-full : numberOn R (bookOf m) (add t n h) ≡ 0 → place < 16
         not-full z =
             let y = zero-else (allowedFault t n h) _ z in
-            let w = zero-else (cond (any (passes (isOf t n)) (bookOf m .tiles)) 17 0) _ (y .1) in
+            let w = zero-else (cond (anyOf (passes (isOf t n)) (bookOf m .tiles)) 17 0) _ (y .1) in
             leb-false 16 place (full-same p m T ∙ cond-fault _ 17 0 (w .1) .0)
 
   link-agrees : (up : Bool) (l : Layout) (t : ℕ)

@@ -10,13 +10,13 @@ use Rattle.pose.proofs.Laws.{position-read, position-refused}
 use Rattle.pose.proofs.read_position.Statement.{statement}
 use Rattle.pose.proofs.read_position.Tie as tie
 
-position-number-requires : tie.Need-position-number-requires
-position-number-requires c κs = search needs
+position-fault-requires : tie.Need-position-fault-requires
+position-fault-requires c κs = search needs
 
 returns : tie.Need-returns
 returns c =
     let s = c .before .before .before .args .content .now in
-    let e = c .before .position-number .ensures in
+    let e = c .before .position-fault .ensures in
     ap (λ (n : ℕ). record { number = n; count = 0; words = replicate 7 0 }) e ∙ sym (position-refused s (λ z. c .if1 .taken (e ∙ z)))
 
 be32-requires : tie.Need-be32-requires
@@ -46,7 +46,7 @@ words-in-requires c κs = search needs
 returns-2 : tie.Need-returns-2
 returns-2 c =
     let s = c .before .before .before .before .before .before .before .before .before .before .before .args .content .now in
-    let n = c .before .before .before .before .before .before .before .before .before .position-number .ensures in
+    let n = c .before .before .before .before .before .before .before .before .before .position-fault .ensures in
     let e : _≡_ {A = PositionRead} _ (record { number = 0; count = wordsIn (length s); words = positionAt s }) =
     λ i. record {
       number = 0;
@@ -67,7 +67,7 @@ pub read-position-spec : {M : Type 1} → statement M
 read-position-spec =
     tie.close
     (tie.spec
-    position-number-requires
+    position-fault-requires
     returns
     be32-requires
     be32-requires-2

@@ -8,13 +8,13 @@ use Rattle.pose.proofs.Laws.{transform-read, transform-refused}
 use Rattle.pose.proofs.read_transform.Statement.{statement}
 use Rattle.pose.proofs.read_transform.Tie as tie
 
-transform-number-requires : tie.Need-transform-number-requires
-transform-number-requires c κs = search needs
+transform-fault-requires : tie.Need-transform-fault-requires
+transform-fault-requires c κs = search needs
 
 returns : tie.Need-returns
 returns c =
     let s = c .before .before .before .args .content .now in
-    let e = c .before .transform-number .ensures in
+    let e = c .before .transform-fault .ensures in
     ap (λ (n : ℕ). record { number = n; transform = noTransform }) e ∙ sym (transform-refused s (λ z. c .if1 .taken (e ∙ z)))
 
 three-requires : tie.Need-three-requires
@@ -32,7 +32,7 @@ three-requires-4 c κs = search needs
 returns-2 : tie.Need-returns-2
 returns-2 c =
     let s = c .before .before .before .before .before .before .before .args .content .now in
-    let n = c .before .before .before .before .before .transform-number .ensures in
+    let n = c .before .before .before .before .before .transform-fault .ensures in
     let e : _≡_ {A = TransformRead} _ (record { number = 0; transform = transformAt s }) =
     λ i. record {
       number = 0;
@@ -49,7 +49,7 @@ pub read-transform-spec : {M : Type 1} → statement M
 read-transform-spec =
     tie.close
     (tie.spec
-    transform-number-requires
+    transform-fault-requires
     returns
     three-requires
     three-requires-2

@@ -83,10 +83,10 @@ module _ (R : Reader) where
     pub room-refused : (numberOn R (bookOf m) c ≡ 0 → ⊥) → roomNext R m c ≡ m
     room-refused z = ap (λ (t : Bool). cond t (changed R m (noteOf c)) m) (ne-eqb (numberOn R (bookOf m) c) 0 z)
 
-  abbrev Books : List Call → Type 0
-  Books cs = bookOf (roomAfter R cs) ≡ summaryOf R cs
+  abbrev BookTheorems : List Call → Type 0
+  BookTheorems cs = bookOf (roomAfter R cs) ≡ summaryOf R cs
 
-  books-more : (cs : List Call) (c : Call) → Books cs → Books (longer R cs c)
+  books-more : (cs : List Call) (c : Call) → BookTheorems cs → BookTheorems (longer R cs c)
   books-more cs c e =
       let m = roomAfter R cs in
       let f : numberOn R (bookOf m) c ≡ numberOn R (summaryOf R cs) c = ap (λ (b : Summary). numberOn R b c) e in
@@ -97,12 +97,12 @@ module _ (R : Reader) where
       ∙ sym (book-next R cs c (sym f ∙ z)))
       (λ z. ap bookOf (room-refused m c z) ∙ e ∙ sym (book-kept R cs c (λ y. z (f ∙ y))))
 
-  books-start : Books []
+  books-start : BookTheorems []
   unfolding roomAfter summaryOf
   books-start = refl
 
-  pub books : (cs : List Call) → Books cs
-  books = by-calls Books books-start books-more
+  pub books : (cs : List Call) → BookTheorems cs
+  books = by-calls BookTheorems books-start books-more
 
   -- what the book has under a number
   pub book-at : (cs : List Call) (i : ℕ) → tileAt (summaryOf R cs) i ≡ Option·map entryOf (roomAt (roomAfter R cs) i)

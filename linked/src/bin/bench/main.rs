@@ -81,11 +81,11 @@ fn reader(name: &str, number: u8, stream: &[u8]) -> Row {
 
 fn bind(n: usize, type_text: &[u8], data: &[u8]) -> Row {
     let content = inputs::bind(n, type_text, data);
-    assert_eq!(linked::content_number(b"BIND", &content), 0, "{n} children");
-    assert_eq!(rust::content_number(b"BIND", &content), 0, "{n} children");
+    assert_eq!(linked::content_fault(b"BIND", &content), 0, "{n} children");
+    assert_eq!(rust::content_fault(b"BIND", &content), 0, "{n} children");
     let times = alternate([
-        timer(|| linked::content_number(b"BIND", black_box(&content))),
-        timer(|| rust::content_number(b"BIND", black_box(&content))),
+        timer(|| linked::content_fault(b"BIND", black_box(&content))),
+        timer(|| rust::content_fault(b"BIND", black_box(&content))),
     ]);
     Row::new(&n.to_string(), n, times)
 }

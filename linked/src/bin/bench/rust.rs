@@ -13,8 +13,8 @@ pub fn crc64(bytes: &[u8]) -> u64 {
 }
 
 #[inline(never)]
-pub fn content_number(type_text: &[u8], content: &[u8]) -> u8 {
-    content::content_number(type_text, content)
+pub fn content_fault(type_text: &[u8], content: &[u8]) -> u8 {
+    content::content_fault(type_text, content)
 }
 
 #[inline(never)]

@@ -7,14 +7,14 @@ use lib.ListN.{length}
 use lib.Seq.{sets}
 use borrow.Author.Needs.{needs}
 use Rattle.fields.specs.Numbers.{beBytes}
-use Rattle.metadata.specs.Check.{indexIn}
-use Rattle.content.specs.Check.{deepest}
-use Rattle.cleaning.specs.Clean.{cleanBytes}
+use Rattle.metadata.specs.MetadataCheck.{indexIn}
+use Rattle.content.specs.ContentCheck.{deepest}
+use Rattle.cleaning.specs.CleanBytes.{cleanBytes}
 use Rattle.cleaning.proofs.Laws.Lengths.{length-clean}
-use Rattle.cleaning.proofs.Laws.Walk.{put-left}
+use Rattle.cleaning.proofs.Laws.CleaningWalk.{put-left}
 use Rattle.message.specs.declared.extended.ExtendedNumbers.{ExtendedNumbers}
 use Rattle.message.specs.Body.{extendedNumbers, MetadataFits}
-use Rattle.message.specs.Writer.{sectionsGiven}
+use Rattle.message.specs.MessageWriter.{sectionsGiven}
 use Rattle.message.proofs.Laws.Body.{extended-stored}
 use Rattle.message.proofs.body.put_extended.Statement.{statement}
 use Rattle.message.proofs.body.put_extended.Tie as tie

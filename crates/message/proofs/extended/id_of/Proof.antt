@@ -2,7 +2,7 @@
 use mathlib.Core.Path.{ap, sym, _∙_}
 use borrow.Author.Needs.{needs}
 use Rattle.message.specs.declared.Layout.{Layout}
-use Rattle.message.specs.Check.{idAt}
+use Rattle.message.specs.MessageReader.{idAt}
 use Rattle.message.proofs.extended.id_of.Statement.{statement}
 use Rattle.message.proofs.extended.id_of.Tie as tie
 

@@ -4,7 +4,7 @@ use mathlib.Core.Path.{ap, sym, _∙_}
 use lib.Dec.{eqb}
 use borrow.Author.Needs.{needs}
 use Rattle.message.specs.declared.Layout.{Layout}
-use Rattle.message.specs.Check.{reservedOk}
+use Rattle.message.specs.MessageReader.{reservedOk}
 use Rattle.message.proofs.extended.reserved_ok.Statement.{statement}
 use Rattle.message.proofs.extended.reserved_ok.Tie as tie
 

@@ -3,7 +3,7 @@ use Prim.Native.Nat.{ℕ, _+_}
 use mathlib.Core.Path.{ap₂, ap, sym, _∙_}
 use borrow.Author.Needs.{needs}
 use Rattle.message.specs.declared.Layout.{Layout}
-use Rattle.message.specs.Check.{sectionSize}
+use Rattle.message.specs.MessageReader.{sectionSize}
 use Rattle.message.proofs.extended.section_size.Statement.{statement}
 use Rattle.message.proofs.extended.section_size.Tie as tie
 

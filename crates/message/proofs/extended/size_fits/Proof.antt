@@ -2,7 +2,7 @@
 use mathlib.Core.Path.{ap, sym}
 use borrow.Author.Needs.{needs}
 use Rattle.message.specs.declared.Layout.{Layout}
-use Rattle.message.specs.Writer.{sizeFits}
+use Rattle.message.specs.MessageWriter.{sizeFits}
 use Rattle.message.proofs.extended.size_fits.Statement.{statement}
 use Rattle.message.proofs.extended.size_fits.Tie as tie
 

@@ -1,7 +1,7 @@
 -- `vector_messages::streams::print_at` meets its contract.
 use mathlib.Core.Path.{ap, _∙_}
 use borrow.Author.Needs.{needs}
-use Rattle.message.specs.Check.{readOf}
+use Rattle.message.specs.MessageReader.{readOf}
 use Rattle.vector_messages.proofs.streams.print_at.Statement.{statement}
 use Rattle.vector_messages.proofs.streams.print_at.Tie as tie
 

@@ -8,7 +8,7 @@ use super::fields::{be16, first, part, put, put_text12, rest};
 fn put_headers(headers: &[u8], count: usize, at: usize, out: &mut [u8]) {
     let mut left = headers;
     for place in (at..).step_by(20).take(count) {
-        put_text12(bundle::type_of(left), place, out);
+        put_text12(bind_layout::type_of(left), place, out);
         put(part(left, 12, 8), place + 12, out);
         left = rest(left, 20);
     }
@@ -16,29 +16,29 @@ fn put_headers(headers: &[u8], count: usize, at: usize, out: &mut [u8]) {
 
 /// What stands before the children's data.
 fn put_front(content: &[u8], at: usize, out: &mut [u8]) {
-    let count = bundle::count(content);
-    let after = bundle::after_headers(content);
+    let count = bind_layout::count(content);
+    let after = bind_layout::after_headers(content);
     put(first(content, 2), at, out);
-    put_headers(bundle::headers(content), count, at + 2, out);
+    put_headers(bind_layout::headers(content), count, at + 2, out);
     let size = 2 + usize::from(be16(after, 0));
     put(first(after, size), at + 2 + 20 * count, out);
 }
 
 fn put_bind(content: &[u8], levels: u32, at: usize, out: &mut [u8]) {
-    if levels == 0 || bundle::check_layout(content).number != 0 {
+    if levels == 0 || bind_layout::check_layout(content).number != 0 {
         return put(content, at, out);
     }
     put_front(content, at, out);
-    let mut headers = bundle::headers(content);
-    let mut data = bundle::data_of(content);
-    for _ in 0..bundle::count(content) {
-        let size = bundle::size_of(headers);
+    let mut headers = bind_layout::headers(content);
+    let mut data = bind_layout::data_of(content);
+    for _ in 0..bind_layout::count(content) {
+        let size = bind_layout::size_of(headers);
         let to = at + content.len() - data.len();
         let child = first(data, size);
-        put_content(bundle::type_of(headers), child, levels - 1, to, out);
+        put_content(bind_layout::type_of(headers), child, levels - 1, to, out);
         put(part(data, size, size % 2), to + child.len(), out);
         headers = rest(headers, 20);
-        data = bundle::after_block(data, size);
+        data = bind_layout::after_block(data, size);
     }
 }
 

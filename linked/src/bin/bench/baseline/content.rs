@@ -36,9 +36,9 @@ fn without_text(number: u8) -> Checked {
 
 fn check_at(text: &[u8], content: &[u8], levels: u32) -> Checked {
     match kind_of(text) {
-        Kind::Transform => without_text(pose::transform_number(content)),
-        Kind::Position => without_text(pose::position_number(content)),
-        Kind::Image => without_text(image::image_number(content)),
+        Kind::Transform => without_text(pose::transform_fault(content)),
+        Kind::Position => without_text(pose::position_fault(content)),
+        Kind::Image => without_text(image::image_fault(content)),
         Kind::Bind => check_bind(content, levels),
         Kind::Other => accepted(true),
     }
@@ -48,22 +48,22 @@ fn check_bind(content: &[u8], levels: u32) -> Checked {
     if levels == 0 {
         return refusal(11);
     }
-    let layout = bundle::check_layout(content);
+    let layout = bind_layout::check_layout(content);
     if layout.number != 0 {
         return layout;
     }
     let mut clean = layout.clean;
-    let mut headers = bundle::headers(content);
-    let mut data = bundle::data_of(content);
-    for _ in 0..bundle::count(content) {
-        let size = bundle::size_of(headers);
-        let child = check_at(bundle::type_of(headers), first(data, size), levels - 1);
+    let mut headers = bind_layout::headers(content);
+    let mut data = bind_layout::data_of(content);
+    for _ in 0..bind_layout::count(content) {
+        let size = bind_layout::size_of(headers);
+        let child = check_at(bind_layout::type_of(headers), first(data, size), levels - 1);
         if child.number != 0 {
             return child;
         }
         clean &= child.clean;
         headers = rest(headers, 20);
-        data = bundle::after_block(data, size);
+        data = bind_layout::after_block(data, size);
     }
     accepted(clean)
 }
@@ -72,19 +72,19 @@ pub fn check_content(text: &[u8], content: &[u8]) -> Checked {
     check_at(text, content, 4)
 }
 
-pub fn content_number(text: &[u8], content: &[u8]) -> u8 {
+pub fn content_fault(text: &[u8], content: &[u8]) -> u8 {
     check_content(text, content).number
 }
 
 #[cfg(test)]
 mod tests {
-    use super::content_number;
+    use super::content_fault;
 
     #[test]
     fn binds() {
-        assert_eq!(content_number(b"BIND", &[0, 0, 0, 0]), 0);
-        assert_eq!(content_number(b"BIND", &[0, 0, 0, 1]), 10);
-        assert_eq!(content_number(b"BIND", &[]), 10);
-        assert_eq!(content_number(b"STRING", &[]), 0);
+        assert_eq!(content_fault(b"BIND", &[0, 0, 0, 0]), 0);
+        assert_eq!(content_fault(b"BIND", &[0, 0, 0, 1]), 10);
+        assert_eq!(content_fault(b"BIND", &[]), 10);
+        assert_eq!(content_fault(b"STRING", &[]), 0);
     }
 }

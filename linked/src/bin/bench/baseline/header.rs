@@ -98,7 +98,7 @@ pub fn read_header(stream: &[u8]) -> HeaderRead {
     handed(stream, checked.clean)
 }
 
-pub fn names_number(type_text: &[u8], device_name: &[u8]) -> u8 {
+pub fn names_fault(type_text: &[u8], device_name: &[u8]) -> u8 {
     let fits = type_text.len() <= 12 && device_name.len() <= 20;
     if fits && is_text(type_text) && is_text(device_name) {
         0
@@ -108,7 +108,7 @@ pub fn names_number(type_text: &[u8], device_name: &[u8]) -> u8 {
 }
 
 fn write_fault(header: &HeaderFields, type_text: &[u8], device_name: &[u8], room: usize) -> u8 {
-    let names = names_number(type_text, device_name);
+    let names = names_fault(type_text, device_name);
     if names != 0 {
         return names;
     }

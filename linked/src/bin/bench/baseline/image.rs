@@ -81,7 +81,7 @@ fn header_of(content: &[u8]) -> ImageHeader {
     }
 }
 
-pub fn image_number(content: &[u8]) -> u8 {
+pub fn image_fault(content: &[u8]) -> u8 {
     if content.len() < 72 {
         return 9;
     }

@@ -5,7 +5,7 @@ use super::content::check_content;
 use super::crc64::crc64;
 use super::fields::{self, be16, be32, part, put, put16, put32, Checked};
 use super::header::{self, HeaderFields, HeaderRead};
-use super::metadata::{count, index_size, metadata_number};
+use super::metadata::{count, index_size, metadata_fault};
 use reference::message::body::{Body, Layout};
 use reference::message::Message;
 
@@ -72,7 +72,7 @@ fn is_extended(layout: Layout, body: &[u8]) -> bool {
     size + section_size(layout, body) <= body.len()
 }
 
-fn body_number(layout: Layout, version: u16, body: &[u8]) -> u8 {
+fn body_fault(layout: Layout, version: u16, body: &[u8]) -> u8 {
     if version != 2 || is_extended(layout, body) {
         0
     } else {
@@ -80,7 +80,7 @@ fn body_number(layout: Layout, version: u16, body: &[u8]) -> u8 {
     }
 }
 
-fn index_number(layout: Layout, version: u16, body: &[u8], metadata: &[u8]) -> u8 {
+fn index_fault(layout: Layout, version: u16, body: &[u8], metadata: &[u8]) -> u8 {
     if version != 2 {
         return 0;
     }
@@ -126,7 +126,7 @@ fn refusal(number: u8, step: usize) -> Answer {
     }
 }
 
-fn version_number(version: u16) -> u8 {
+fn version_fault(version: u16) -> u8 {
     match version {
         1 | 2 => 0,
         _ => 4,
@@ -134,7 +134,7 @@ fn version_number(version: u16) -> u8 {
 }
 
 fn check_contents(type_text: &[u8], content: &[u8], metadata: &[u8]) -> Checked {
-    let fault = metadata_number(metadata);
+    let fault = metadata_fault(metadata);
     if fault != 0 {
         return fields::refusal(fault);
     }
@@ -142,20 +142,20 @@ fn check_contents(type_text: &[u8], content: &[u8], metadata: &[u8]) -> Checked 
 }
 
 fn check_body(layout: Layout, version: u16, crc: u64, type_text: &[u8], body: &[u8]) -> Checked {
-    let fault = version_number(version);
+    let fault = version_fault(version);
     if fault != 0 {
         return fields::refusal(fault);
     }
     if crc64(body) != crc {
         return fields::refusal(5);
     }
-    let fault = body_number(layout, version, body);
+    let fault = body_fault(layout, version, body);
     if fault != 0 {
         return fields::refusal(fault);
     }
     let places = sections(layout, version, body);
     let metadata = part(body, places.metadata_at, places.metadata_len);
-    let fault = index_number(layout, version, body, metadata);
+    let fault = index_fault(layout, version, body, metadata);
     if fault != 0 {
         return fields::refusal(fault);
     }
@@ -251,7 +251,7 @@ fn is_fit(layout: Layout, version: u16, body: &Body) -> bool {
 }
 
 fn sections_checks(layout: Layout, version: u16, type_text: &[u8], body: &Body) -> u8 {
-    let fault = version_number(version);
+    let fault = version_fault(version);
     if fault != 0 {
         return fault;
     }
@@ -262,7 +262,7 @@ fn sections_checks(layout: Layout, version: u16, type_text: &[u8], body: &Body) 
 }
 
 fn write_checks(layout: Layout, message: &Message) -> u8 {
-    let fault = header::names_number(message.type_text, message.device_name);
+    let fault = header::names_fault(message.type_text, message.device_name);
     if fault != 0 {
         return fault;
     }

@@ -59,7 +59,7 @@ fn section_ok(section: &[u8]) -> bool {
     entries_ok(headers_of(section), data_of(section), n)
 }
 
-pub fn metadata_number(section: &[u8]) -> u8 {
+pub fn metadata_fault(section: &[u8]) -> u8 {
     if section.is_empty() || section_ok(section) {
         0
     } else {
@@ -69,15 +69,15 @@ pub fn metadata_number(section: &[u8]) -> u8 {
 
 #[cfg(test)]
 mod tests {
-    use super::metadata_number;
+    use super::metadata_fault;
 
     #[test]
     fn sections() {
         let one = [0, 1, 0, 1, 0, 3, 0, 0, 0, 2, b'k', 5, 6];
-        assert_eq!(metadata_number(&[]), 0);
-        assert_eq!(metadata_number(&[0, 0]), 0);
-        assert_eq!(metadata_number(&one), 0);
-        assert_eq!(metadata_number(&one[..12]), 7);
-        assert_eq!(metadata_number(&[0]), 7);
+        assert_eq!(metadata_fault(&[]), 0);
+        assert_eq!(metadata_fault(&[0, 0]), 0);
+        assert_eq!(metadata_fault(&one), 0);
+        assert_eq!(metadata_fault(&one[..12]), 7);
+        assert_eq!(metadata_fault(&[0]), 7);
     }
 }

@@ -1,0 +1,5 @@
+pub mod Children
+pub mod Written
+pub mod Read
+pub mod Marks
+pub mod BundleTheorems

@@ -1,0 +1,95 @@
+-- `bind_layout::layout_check::read_types` meets its contract. The loop's invariant: the answer is that for the headers left, with the mark so far.
+use mathlib.Core.Path.{_≡_, refl, sym, ap, ap₂, _∙_}
+use mathlib.Core.Bool.{Bool, true, false, _&&_}
+use mathlib.Core.List.{List}
+use Prim.Native.Nat.{ℕ, _-_}
+use lib.ListN.{take}
+use borrow.Author.Tests.{not-true, not-false}
+use borrow.Author.Needs.{needs}
+use Rattle.fields.specs.Text.{textOk, fieldOk}
+use Rattle.fields.specs.declared.text.TextField.{TextField}
+use Rattle.fields.proofs.Laws.Checks.{and-assoc, and-true, and-false}
+use Rattle.bind_layout.specs.BindLayout.{typesOk, typesClean}
+use Rattle.bind_layout.proofs.Laws.Marks.{types-end, types-stop, types-next, clean-next, clean-stop}
+use Rattle.bind_layout.proofs.layout_check.read_types.Statement.{statement}
+use Rattle.bind_layout.proofs.layout_check.read_types.Tie as tie
+
+-- an answer by its two parts
+answer : {a b c d : Bool} → a ≡ b → c ≡ d → _≡_ {A = TextField} (record { ok = a; clean = c }) (record { ok = b; clean = d })
+answer p q = λ i. record { ok = p i; clean = q i }
+
+abbrev Inv-loop : tie.InvT-loop
+Inv-loop headers n h₀ left₀ clean₀ h left clean = (typesOk n headers ≡ typesOk left h) × (typesClean n headers ≡ (clean && typesClean left h))
+
+abbrev μ-loop : tie.MeasureT-loop
+μ-loop headers n h₀ left₀ clean₀ h left clean = left
+
+loop-holds : tie.Need-loop-holds Inv-loop μ-loop
+loop-holds c = (refl, refl)
+
+first-requires : tie.Need-first-requires Inv-loop μ-loop
+first-requires c κs = search needs
+
+read-field-requires : tie.Need-read-field-requires Inv-loop μ-loop
+read-field-requires c κs = search needs
+
+returns : tie.Need-returns Inv-loop μ-loop
+returns c =
+    let l = c .before .before .before .before .before .loop in
+    let h = l .h .now in
+    let p = c .before .before .before .before .loop-test .taken in
+    let f = ap (λ (x : TextField). x .ok) (c .before .before .read-field .ensures) ∙ ap textOk (c .before .before .before .first .ensures) in
+    let e : textOk (take 12 h) ≡ false = sym f ∙ not-true _ (c .if1 .taken) in
+    sym (answer (l .inv .0 ∙ types-stop (l .left) h p e) (l .inv .1 ∙ ap (λ (t : Bool). l .clean && t) (clean-stop (l .left) h p e) ∙ and-false (l .clean)))
+
+both-requires : tie.Need-both-requires Inv-loop μ-loop
+both-requires c κs = search needs
+
+rest-requires : tie.Need-rest-requires Inv-loop μ-loop
+rest-requires c κs = search needs
+
+sub-left : tie.Need-sub-left Inv-loop μ-loop
+sub-left c = search needs
+
+loop-less : tie.Need-loop-less Inv-loop μ-loop
+loop-less c = search needs
+
+loop-again : tie.Need-loop-again Inv-loop μ-loop
+loop-again c =
+    let l = c .before .before .before .before .before .before .before .loop in
+    let h = l .h .now in
+    let p = c .before .before .before .before .before .before .loop-test .taken in
+    let first = c .before .before .before .before .before .first .ensures in
+    let read = c .before .before .before .before .read-field .ensures in
+    let e : textOk (take 12 h) ≡ true = sym (ap (λ (x : TextField). x .ok) read ∙ ap textOk first) ∙ not-false _ (c .before .before .if1 .left) in
+    let m = ap (λ (x : TextField). x .clean) read ∙ ap fieldOk first in
+    let r = c .rest .result .now in (
+      l .inv .0 ∙ types-next (l .left) h p e ∙ ap (typesOk (l .left - 1)) (sym (c .rest .ensures)),
+      l .inv .1
+          ∙ ap (λ (t : Bool). l .clean && t) (clean-next (l .left) h p ∙ ap₂ (λ (a : Bool) (x : List ℕ). a && typesClean (l .left - 1) x) (sym m) (sym (c .rest .ensures)))
+          ∙ sym (and-assoc (l .clean) (c .before .before .before .before .read-field .result .clean) (typesClean (l .left - 1) r))
+          ∙ ap (λ (t : Bool). t && typesClean (l .left - 1) r) (sym (c .before .both .ensures)),
+    )
+
+returns-2 : tie.Need-returns-2 Inv-loop μ-loop
+returns-2 c =
+    let l = c .before .loop in
+    let e = types-end (l .left) (l .h .now) (c .loop-test .left) in
+    sym (answer (l .inv .0 ∙ e .0) (l .inv .1 ∙ ap (λ (t : Bool). l .clean && t) (e .1) ∙ and-true (l .clean)))
+
+pub read-types-spec : {M : Type 1} → statement M
+read-types-spec =
+    tie.close
+    (tie.spec
+    Inv-loop
+    μ-loop
+    loop-holds
+    first-requires
+    read-field-requires
+    returns
+    both-requires
+    rest-requires
+    sub-left
+    loop-less
+    loop-again
+    returns-2)

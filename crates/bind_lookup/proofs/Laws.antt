@@ -1,0 +1,5 @@
+pub mod Lookup
+pub mod Past
+pub mod Cases
+pub mod LookupTheorems
+pub mod EitherTheorems

@@ -1,0 +1,47 @@
+-- `bind_lookup::place_in` meets its contract: the case of a refusal, and that of a place.
+use mathlib.Core.Path.{sym, _∙_}
+use borrow.Author.Tests.{eq-eqb, ne-eqb}
+use Rattle.bind_lookup.specs.ChildLookup.{placed}
+use Rattle.bind_lookup.proofs.Laws.Lookup.{left-inside}
+use borrow.Author.Needs.{needs}
+use Rattle.bind_lookup.proofs.place_in.Statement.{statement}
+use Rattle.bind_lookup.proofs.place_in.Tie as tie
+
+child-fault-requires : tie.Need-child-fault-requires
+child-fault-requires c κs = search needs
+
+returns : tie.Need-returns
+unfolding placed
+returns c =
+    let e = c .before .child-fault .ensures in
+    simp (ne-eqb _ 0 (λ z. c .if1 .taken (e ∙ z))) cc
+
+data-from-requires : tie.Need-data-from-requires
+data-from-requires c κs = search needs
+
+sub-t10 : tie.Need-sub-t10
+sub-t10 c = left-inside (c .before .before .before .before .args .content .now) _ (c .data-from .ensures)
+
+headers-from-requires : tie.Need-headers-from-requires
+headers-from-requires c κs = search needs
+
+size-of-requires : tie.Need-size-of-requires
+size-of-requires c κs = search needs
+
+returns-2 : tie.Need-returns-2
+unfolding placed
+returns-2 c =
+    let e = sym (c .before .before .before .before .child-fault .ensures) ∙ c .before .before .before .if1 .left in
+    simp (eq-eqb _ 0 e) cc
+
+pub place-in-spec : {M : Type 1} → statement M
+place-in-spec =
+    tie.close
+    (tie.spec
+    child-fault-requires
+    returns
+    data-from-requires
+    sub-t10
+    headers-from-requires
+    size-of-requires
+    returns-2)

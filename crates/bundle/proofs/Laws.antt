@@ -1,5 +1,0 @@
-pub mod Children
-pub mod Written
-pub mod Read
-pub mod Marks
-pub mod Bundles

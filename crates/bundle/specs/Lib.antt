@@ -1,6 +1,0 @@
--- A BIND's children and how they are written; the parts of a content and the check of its layout; the statements about both.
-
-pub mod Children
-pub mod Layout
-pub mod Bundles
-pub mod Examples
