@@ -1,7 +1,7 @@
 //! Contents written clean: zeros after the text of each CTYPE field, at all levels. The parts of a
 //! BIND are put in order.
 
-use super::bundle;
+use super::bind_layout;
 use super::content::is_bind;
 use super::fields::{be16, first, part, put, put_text12, rest};
 

@@ -1,7 +1,7 @@
 //! Contents, judged by their type: one dispatch, and BINDs to their innermost children.
 
 use super::fields::{accepted, first, refusal, rest, Checked};
-use super::{bundle, image, pose};
+use super::{bind_layout, image, pose};
 
 enum Kind {
     Transform,
