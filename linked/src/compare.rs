@@ -13,6 +13,7 @@ use reference::fault::number;
 use reference::message::body::Layout;
 use reference::message::read;
 use reference::vectors::samples::Sample;
+use reference::walk::{next, walk, Step};
 use reference::writer::write_message;
 use std::fmt::{self, Debug, Display, Formatter};
 
@@ -21,8 +22,8 @@ use std::fmt::{self, Debug, Display, Formatter};
 pub enum Label {
     /// A number of rule 5.1.
     Number(u8),
-    /// A CRC, a message that is accepted and not clean, which answer of the panel that is no
-    /// refusal, or that a feed has none yet.
+    /// A CRC, a message that is accepted and not clean, a child that a walk comes to, which answer of
+    /// the panel that is no refusal, or that a feed has none yet.
     Word(&'static str),
 }
 
@@ -137,7 +138,27 @@ fn compare_content(type_text: &[u8], content: &[u8]) -> Result<Vec<Label>, Diffe
     let answer = number(&parse(type_text, content));
     let proved = crate::content_fault(type_text, content);
     same("the content's number", proved, answer)?;
-    Ok(vec![Label::Number(answer)])
+    let children = compare_walk(content)?;
+    let labels = [Label::Number(answer)].into_iter();
+    Ok(labels.chain(vec![Label::Word("child"); children]).collect())
+}
+
+/// The cursor at each child of the content as that of a BIND, those past the end, and each of them
+/// on half of the content. How many children there are.
+fn compare_walk(content: &[u8]) -> Result<usize, Difference> {
+    let steps = walk(content);
+    let mut cursor = crate::first_child(content);
+    for (place, step) in steps.iter().enumerate() {
+        same(format_args!("cursor {place}"), cursor, step.numbers())?;
+        let half = &content[..content.len() / 2];
+        let on_half = crate::next_child(half, cursor);
+        let of_half = format_args!("the cursor after {place} on half of the content");
+        same(of_half, on_half, next(half, *step).numbers())?;
+        cursor = crate::next_child(content, cursor);
+    }
+    let end = steps.last().map(Step::numbers).expect("a last step");
+    same("the cursor after the last", cursor, end)?;
+    Ok(steps.len() - 1)
 }
 
 /// The answer in the sample's layout, and the whole buffer after it.

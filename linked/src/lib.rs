@@ -67,6 +67,20 @@ mod archive {
             out: *mut u8,
             out_len: usize,
         );
+        pub fn kudireppa_first_child(
+            content: *const u8,
+            content_len: usize,
+            out: *mut u8,
+            out_len: usize,
+        );
+        pub fn kudireppa_next_child(
+            content: *const u8,
+            content_len: usize,
+            cursor: *const u8,
+            cursor_len: usize,
+            out: *mut u8,
+            out_len: usize,
+        );
         pub fn kudireppa_feed(
             layout: u8,
             lengths: *const u8,
@@ -266,6 +280,48 @@ pub fn feed(layout: Layout, lengths: &[u32], stream: &[u8], buffer: &mut [u8]) -
         kept: number(FIELDS + 2),
     };
     (pushed, total)
+}
+
+/// A cursor in a walk through a BIND's children: the number, how many children are left, place and
+/// length of the type, the name and the data of this one, and the mark.
+pub type Cursor = [u64; 9];
+
+const CURSOR_LENGTH: usize = 72;
+
+/// The cursor at the first child.
+pub fn first_child(content: &[u8]) -> Cursor {
+    let mut out = [UNWRITTEN; CURSOR_LENGTH];
+    // SAFETY: one slice, read; the array, written within its length.
+    unsafe {
+        archive::kudireppa_first_child(
+            content.as_ptr(),
+            content.len(),
+            out.as_mut_ptr(),
+            out.len(),
+        );
+    }
+    std::array::from_fn(|place| number_at(&out, 8 * place))
+}
+
+/// The cursor after any other.
+pub fn next_child(content: &[u8], cursor: Cursor) -> Cursor {
+    let mut bytes = [0; CURSOR_LENGTH];
+    for (field, number) in bytes.chunks_mut(8).zip(cursor) {
+        field.copy_from_slice(&number.to_be_bytes());
+    }
+    let mut out = [UNWRITTEN; CURSOR_LENGTH];
+    // SAFETY: a slice and an array, read; another array, written within its length.
+    unsafe {
+        archive::kudireppa_next_child(
+            content.as_ptr(),
+            content.len(),
+            bytes.as_ptr(),
+            bytes.len(),
+            out.as_mut_ptr(),
+            out.len(),
+        );
+    }
+    std::array::from_fn(|place| number_at(&out, 8 * place))
 }
 
 /// The big-endian number in eight bytes of an answer.

@@ -15,4 +15,5 @@ pub mod random;
 pub mod script;
 mod text;
 pub mod vectors;
+pub mod walk;
 pub mod writer;

@@ -34,7 +34,7 @@ pub fn count(content: &[u8]) -> Result<Count, Fault> {
     })
 }
 
-pub fn by_number(content: &[u8], number: u64) -> Result<Found<'_>, Fault> {
+pub fn by_index(content: &[u8], number: u64) -> Result<Found<'_>, Fault> {
     let bundle = Bundle::open(content)?;
     let number = usize::try_from(number).map_err(|_| Fault::NotFound)?;
     bundle.child(number).ok_or(Fault::NotFound)
@@ -98,7 +98,7 @@ impl<'a> Bundle<'a> {
 
 #[cfg(test)]
 mod tests {
-    use super::{by_name, by_number, count, either, Count, Source};
+    use super::{by_name, by_index, count, either, Count, Source};
     use crate::content::bind::{join, Part};
     use crate::fault::Fault;
 
@@ -124,20 +124,20 @@ mod tests {
         let content = bundle(&[(b"A", b"1"), (b"B", b"2")]);
         let clean = true;
         assert_eq!(count(&content), Ok(Count { children: 2, clean }));
-        assert_eq!(by_number(&content, 1).unwrap().child.data, b"2");
-        assert_eq!(by_number(&content, 2), Err(Fault::NotFound));
-        assert_eq!(by_number(&content, u64::MAX), Err(Fault::NotFound));
-        assert_eq!(by_number(&content[1..], 0), Err(Fault::Bind));
+        assert_eq!(by_index(&content, 1).unwrap().child.data, b"2");
+        assert_eq!(by_index(&content, 2), Err(Fault::NotFound));
+        assert_eq!(by_index(&content, u64::MAX), Err(Fault::NotFound));
+        assert_eq!(by_index(&content[1..], 0), Err(Fault::Bind));
     }
 
     #[test]
     fn a_place_is_where_the_data_stand() {
         let content = bundle(&[(b"A", b"123"), (b"B", b"45"), (b"C", b""), (b"D", b"6")]);
         for number in 0..4 {
-            let found = by_number(&content, number).unwrap();
+            let found = by_index(&content, number).unwrap();
             assert!(content[found.at..].starts_with(found.child.data));
         }
-        assert_eq!(by_number(&content, 1).unwrap().at, content.len() - 4);
+        assert_eq!(by_index(&content, 1).unwrap().at, content.len() - 4);
     }
 
     #[test]

@@ -6,6 +6,7 @@ pub mod case;
 mod children;
 pub mod contents;
 mod crc;
+mod cursors;
 mod feeds;
 pub mod headers;
 pub mod images;
@@ -43,6 +44,7 @@ pub fn files() -> [VectorFile; 10] {
         streams::cases(),
         message_writers::cases(),
         rests::cases(),
+        cursors::cases(),
     ];
     let cases = topics.concat();
     let sample = streams::listing_input();
@@ -71,7 +73,7 @@ mod tests {
     use super::files;
 
     /// As many bytes as the programs `vectors`, `panel_scripts` and `feed_streams` read.
-    const LONGEST: [usize; 3] = [1_376_256, 1_048_576, 1_376_256];
+    const LONGEST: [usize; 3] = [2_097_152, 1_376_256, 1_376_256];
 
     #[test]
     fn the_inputs_are_read_whole() {

@@ -7,6 +7,7 @@ use lib.Dec.{eqb, ltb, leb}
 use lib.ListN.{length, take, drop}
 use Rattle.fields.specs.Bytes.{part}
 use Rattle.fields.specs.Numbers.{beAt}
+use Rattle.fields.specs.Tables.{itemsOk}
 use Rattle.fields.specs.Text.{textOf, pastText, allZero, textOk, fieldOk}
 use Rattle.fields.specs.declared.text.TextField.{TextField}
 use Rattle.fields.specs.declared.Checked.{Checked}
@@ -87,8 +88,7 @@ blockOk n d = leb n (length d) && padOk (n % 2) (drop n d)
 
 -- the data of each child with its pad, that of the last one too, and nothing after it (rule 4.12)
 unfoldable pub dataOk : ℕ → List ℕ → List ℕ → Bool
-dataOk zero h d = eqb (length d) 0
-dataOk (suc k) h d = blockOk (sizeOf h) d && dataOk k (drop 20 h) (afterBlock (sizeOf h) d)
+dataOk k h d = itemsOk 20 (λ h d. afterBlock (sizeOf h) d) (λ h d. blockOk (sizeOf h) d) (λ d. eqb (length d) 0) k h d
 
 unfoldable pub layoutOk : List ℕ → Bool
 layoutOk s =

@@ -5,19 +5,16 @@ use mathlib.Core.Path.{_≡_}
 use mathlib.Core.Logic.{_↔_}
 use mathlib.Core.Bool.{true, false}
 use mathlib.Core.List.{List}
-use Rattle.fields.specs.Bytes.{Bytes}
+use Rattle.fields.specs.Formats.{IsWritten, TwoWay}
 use Rattle.fields.specs.Lists.{Each}
 use Rattle.bind_layout.specs.Children.{Child, encodeChildren, WellBundle, CleanChild}
 use Rattle.bind_layout.specs.BindLayout.{layoutFault, layoutChecked}
 
 -- some children are written as these bytes
 abbrev pub IsBundle : List ℕ → Type 0
-IsBundle s = (cs : List Child) × WellBundle cs × (encodeChildren cs ≡ s)
+IsBundle s = IsWritten WellBundle encodeChildren s
 
 pub record BundleTheorems : Type 0 where
-  pub accepted : (s : List ℕ) → Bytes s → layoutFault s ≡ 0 → IsBundle s
-  pub well-accepted : (cs : List Child) → WellBundle cs → layoutFault (encodeChildren cs) ≡ 0
-  pub refused : (s : List ℕ) → Bytes s → (IsBundle s → ⊥) → layoutFault s ≡ 10
-  pub unique : (xs ys : List Child) → WellBundle xs → WellBundle ys → encodeChildren xs ≡ encodeChildren ys → xs ≡ ys
+  pub two-way : TwoWay WellBundle encodeChildren layoutFault (λ n. n ≡ 10)
   pub no-mark : (s : List ℕ) → (layoutFault s ≡ 0 → ⊥) → layoutChecked s .clean ≡ false
   pub mark : (cs : List Child) → WellBundle cs → (layoutChecked (encodeChildren cs) .clean ≡ true) ↔ Each CleanChild cs

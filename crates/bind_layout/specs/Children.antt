@@ -1,5 +1,5 @@
 -- A bundle (rules 4.9 to 4.13): a list of children, and the BIND content that it is written as. Nothing here reads bytes.
-use Prim.Native.Nat.{ℕ, _%_, _^_, _≤_, _<_}
+use Prim.Native.Nat.{ℕ, _%_, _^_, _<_}
 use mathlib.Core.Path.{_≡_}
 use mathlib.Core.List.{List, [], _∷_, _++_}
 use lib.ListN.{length, replicate}

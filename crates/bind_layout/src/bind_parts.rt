@@ -2,6 +2,11 @@
 ghost use mathlib.Core.Path.{_≡_};
 ghost use Rattle.bind_layout.specs.BindLayout.{childCount, headers, afterHeaders, tableOf, dataOf, typeOf, sizeOf, afterBlock};
 
+// The bytes of a child's header, and of CTYPE, its first field (rule 4.9).
+pub const CHILD_HEADER_SIZE: usize = 20;
+
+pub const CTYPE_SIZE: usize = 12;
+
 // N_CHILD.
 pub fn child_count(content: &[u8]) -> usize
     ensures { λ r. ⌜ r ≡ childCount (now (content .entry)) ⌝ }
@@ -20,7 +25,7 @@ pub fn headers(content: &[u8]) -> &[u8]
 pub fn after_headers(content: &[u8]) -> &[u8]
     ensures { λ r. ⌜ now r ≡ afterHeaders (now (content .entry)) ⌝ }
 {
-    fields::slice::rest(content, 2 + 20 * child_count(content))
+    fields::slice::rest(content, 2 + CHILD_HEADER_SIZE * child_count(content))
 }
 
 pub fn table_of(content: &[u8]) -> &[u8]
@@ -42,14 +47,14 @@ pub fn data_of(content: &[u8]) -> &[u8]
 pub fn type_of(headers: &[u8]) -> &[u8]
     ensures { λ r. ⌜ now r ≡ typeOf (now (headers .entry)) ⌝ }
 {
-    fields::text::text_of(fields::slice::first(headers, 12))
+    fields::text::text_of(fields::slice::first(headers, CTYPE_SIZE))
 }
 
 // The first header's CSIZE.
 pub fn size_of(headers: &[u8]) -> usize
     ensures { λ r. ⌜ r ≡ sizeOf (now (headers .entry)) ⌝ }
 {
-    fields::number::be64(headers, 12) as usize
+    fields::number::be64(headers, CTYPE_SIZE) as usize
 }
 
 // What is left of the data after a child of n bytes and its pad. The two are not added: the sum could wrap.

@@ -1,5 +1,7 @@
 // The check of a BIND content's layout. Each walk goes down what is left of the headers, the name table or the data, so its time is
 // linear in the content; no sum of sizes is formed that could wrap.
+use crate::bind_parts::CHILD_HEADER_SIZE;
+use crate::bind_parts::CTYPE_SIZE;
 use fields::Checked;
 use fields::marked;
 use fields::text::TextField;
@@ -15,7 +17,7 @@ fn read_types(headers: &[u8], n: usize) -> TextField
     let mut left = n;
     let mut clean = true;
     while 0 < left {
-        let field = read_field(fields::slice::first(h, 12));
+        let field = read_field(fields::slice::first(h, CTYPE_SIZE));
         if !field.ok {
             return TextField {
                 ok: false,
@@ -24,7 +26,7 @@ fn read_types(headers: &[u8], n: usize) -> TextField
         }
         let so_far = fields::both(clean, field.clean);
         clean = so_far;
-        let next = fields::slice::rest(h, 20);
+        let next = fields::slice::rest(h, CHILD_HEADER_SIZE);
         h = next;
         left -= 1;
     }
@@ -102,7 +104,7 @@ fn data_ok(headers: &[u8], blocks: &[u8], n: usize) -> bool
         if !block_ok(d, size) {
             return false;
         }
-        let next_headers = fields::slice::rest(h, 20);
+        let next_headers = fields::slice::rest(h, CHILD_HEADER_SIZE);
         h = next_headers;
         let next_data = crate::bind_parts::after_block(d, size);
         d = next_data;
@@ -117,7 +119,7 @@ pub fn check_layout(content: &[u8]) -> Checked
 {
     let n = crate::bind_parts::child_count(content);
     let table_size = fields::number::be16(crate::bind_parts::after_headers(content), 0) as usize;
-    if content.len() < 4 + 20 * n + table_size {
+    if content.len() < 4 + CHILD_HEADER_SIZE * n + table_size {
         return marked(10, false);
     }
     let types = read_types(crate::bind_parts::headers(content), n);

@@ -13,7 +13,7 @@ use Rattle.content.specs.ContentCheck.{bindFault, bindChecked, deepest}
 use Rattle.bind_lookup.specs.declared.ChildCount.{ChildCount}
 use Rattle.bind_lookup.specs.declared.Place.{Place}
 
--- ---- the children, by their number
+-- ---- the children, by their index
 
 -- the headers from child j's on
 abbrev pub headersFrom : ℕ → List ℕ → List ℕ
@@ -29,7 +29,7 @@ unfoldable pub dataFrom : ℕ → List ℕ → List ℕ → List ℕ
 dataFrom zero h d = d
 dataFrom (suc j) h d = dataFrom j (drop 20 h) (afterBlock (sizeOf h) d)
 
--- the number of the first of k names that is x, or k where none is (rule 4.13)
+-- the index of the first of k names that is x, or k where none is (rule 4.13)
 unfoldable pub indexIn : ℕ → List ℕ → List ℕ → ℕ
 indexIn zero t x = 0
 indexIn (suc k) t x = cond (same (textOf t) x) 0 (suc (indexIn k (pastText t) x))
@@ -62,7 +62,7 @@ placed number mark s j =
 abbrev pub placeIn : ℕ → Bool → List ℕ → ℕ → Place
 placeIn fault mark s j = placed (indexFault fault s j) mark s j
 
--- by number, and by name
+-- by index, and by name
 abbrev pub placeOf : List ℕ → ℕ → Place
 placeOf s j = placeIn (bindFault deepest s) (markOf s) s j
 
@@ -73,9 +73,9 @@ namedPlace s x = placeOf s (indexOf s x)
 abbrev pub partAt : Place → List ℕ → List ℕ
 partAt p s = part (p .len) (p .at) s
 
--- the text of child j's type, and its name
+-- the text of child j's type, and its name; no bytes where the look-up is refused
 unfoldable pub typeAt : List ℕ → ℕ → List ℕ
-typeAt s j = cond (eqb (indexFault (bindFault deepest s) s j) 0) (typeOf (headersFrom j s)) []
+typeAt s j = cond (eqb (placeOf s j .number) 0) (typeOf (headersFrom j s)) []
 
 unfoldable pub nameAt : List ℕ → ℕ → List ℕ
-nameAt s j = cond (eqb (indexFault (bindFault deepest s) s j) 0) (textOf (namesFrom j (tableOf s))) []
+nameAt s j = cond (eqb (placeOf s j .number) 0) (textOf (namesFrom j (tableOf s))) []

@@ -1,7 +1,8 @@
 -- Look-ups by name in two bundles (rule 6.2): where the child stands in the site's bundle or, if that has no such child, in the default
 -- one, and in which of the two. The site's bundle is judged first, then the default one; then comes 19 (rule 5.5).
 use Prim.Native.Nat.{ℕ}
-use mathlib.Core.Bool.{cond}
+use mathlib.Core.Path.{_≡_}
+use mathlib.Core.Bool.{Bool, cond}
 use mathlib.Core.List.{List, []}
 use lib.Dec.{eqb, ltb}
 use Rattle.fields.specs.Bytes.{part}
@@ -39,3 +40,15 @@ bundleOf Neither site default = []
 -- the bytes at such a place
 abbrev pub eitherPart : EitherPlace → List ℕ → List ℕ → List ℕ
 eitherPart p site default = part (p .len) (p .at) (bundleOf (p .source) site default)
+
+-- the bytes of the child of the name
+abbrev pub eitherData : List ℕ → List ℕ → List ℕ → List ℕ
+eitherData site default x = eitherPart (eitherPlace site default x) site default
+
+-- this number, these bytes, this source and this mark are what the look-up of the name gives
+abbrev pub Finds : List ℕ → List ℕ → List ℕ → ℕ → List ℕ → Source → Bool → Type 0
+Finds site default x number bytes source mark =
+    (number ≡ eitherPlace site default x .number)
+    × (bytes ≡ eitherData site default x)
+    × (source ≡ eitherPlace site default x .source)
+    × (mark ≡ eitherPlace site default x .clean)

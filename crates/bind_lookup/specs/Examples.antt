@@ -11,7 +11,7 @@ use Rattle.bind_lookup.specs.declared.EitherPlace.{EitherPlace}
 use Rattle.bind_lookup.specs.declared.Source.{Source}
 use Rattle.bind_lookup.specs.declared.Source.the-variants.{Site, Default, Neither}
 use Rattle.bind_lookup.specs.ChildLookup.{countOf, placeOf, namedPlace, partAt, typeAt, nameAt}
-use Rattle.bind_lookup.specs.EitherLookup.{eitherPlace, eitherPart}
+use Rattle.bind_lookup.specs.EitherLookup.{eitherPlace, eitherData, Finds}
 
 -- three children of type "T": name "D", 81 82; name "A", 91; name "A", 92. `twoChildren` has "A" and "BC"
 abbrev pub threeChildren : List ℕ
@@ -73,7 +73,7 @@ foundIn source at len mark = record { number = 0; source = source; at = at; len 
 abbrev pub ofNeither : ℕ → EitherPlace
 ofNeither n = record { number = n; source = Neither; at = 0; len = 0; clean = false }
 
--- by number and by name
+-- by index and by name
 abbrev pub lookedUp : List ℕ → List Place
 lookedUp s = placeOf s 0 ∷ placeOf s 1 ∷ namedPlace s (0x41 ∷ []) ∷ namedPlace s (0x4E ∷ []) ∷ placeOf s 2 ∷ []
 
@@ -83,7 +83,7 @@ letters site default = map (eitherPlace site default) ((0x41 ∷ []) ∷ (0x42 �
 
 pub record Examples : Type 0 where
   pub count : countOf twoChildren ≡ record { number = 0; count = 2; clean = true }
-  -- by number: the first, the second, and none
+  -- by index: the first, the second, and none
   pub at-index : map (placeOf twoChildren) (0 ∷ 1 ∷ 2 ∷ [])
       ≡ found 50 3 true ∷ found 54 1 true ∷ refused 19 ∷ []
   pub contents : map (λ n. partAt (placeOf twoChildren n) twoChildren) (0 ∷ 1 ∷ 2 ∷ []) ≡ (0x61 ∷ 0x62 ∷ 0x63 ∷ []) ∷ (0x71 ∷ []) ∷ [] ∷ []
@@ -93,16 +93,21 @@ pub record Examples : Type 0 where
   pub named : namedPlace twoChildren (0x42 ∷ 0x43 ∷ []) ≡ found 54 1 true
   pub named-first : namedPlace threeChildren (0x41 ∷ []) ≡ found 72 1 true
   pub unnamed : map (namedPlace twoChildren) ((0x42 ∷ []) ∷ [] ∷ []) ≡ replicate 2 (refused 19)
+  -- the number by itself
+  pub faults : map (λ n. placeOf twoChildren n .number) (0 ∷ 1 ∷ 2 ∷ []) ≡ 0 ∷ 0 ∷ 19 ∷ []
+  pub named-faults : map (λ x. namedPlace twoChildren x .number) ((0x41 ∷ []) ∷ (0x42 ∷ []) ∷ []) ≡ 0 ∷ 19 ∷ []
   -- a fault of a later child, or a byte left over, refuses each look-up
   pub faulty : placeOf faultyChild 0 ≡ refused 10
   pub faulty-named : namedPlace (twoChildren ++ (0 ∷ [])) (0x41 ∷ []) ≡ refused 10
   pub faulty-count : countOf faultyChild ≡ record { number = 10; count = 0; clean = false }
   -- of two bundles: a name of both, of the default one, of neither
   pub site : eitherPlace twoChildren threeChildren (0x41 ∷ []) ≡ foundIn Site 50 3 true
-  pub site-part : eitherPart (eitherPlace twoChildren threeChildren (0x41 ∷ [])) twoChildren threeChildren ≡ 0x61 ∷ 0x62 ∷ 0x63 ∷ []
+  pub site-part : eitherData twoChildren threeChildren (0x41 ∷ []) ≡ 0x61 ∷ 0x62 ∷ 0x63 ∷ []
   pub default : eitherPlace twoChildren threeChildren (0x44 ∷ []) ≡ foundIn Default 70 2 true
-  pub default-part : eitherPart (eitherPlace twoChildren threeChildren (0x44 ∷ [])) twoChildren threeChildren ≡ 0x81 ∷ 0x82 ∷ []
+  pub default-part : eitherData twoChildren threeChildren (0x44 ∷ []) ≡ 0x81 ∷ 0x82 ∷ []
   pub neither : eitherPlace twoChildren threeChildren (0x45 ∷ []) ≡ ofNeither 19
+  pub finds : Finds twoChildren threeChildren (0x44 ∷ []) 0 (0x81 ∷ 0x82 ∷ []) Default true
+  pub finds-none : Finds twoChildren threeChildren (0x45 ∷ []) 19 [] Neither false
   -- the site's fault, the default's though the site has the name, and of two faults the site's
   pub site-fault : eitherPlace tooDeep twoChildren (0x41 ∷ []) ≡ ofNeither 11
   pub default-fault : eitherPlace twoChildren tooDeep (0x41 ∷ []) ≡ ofNeither 11

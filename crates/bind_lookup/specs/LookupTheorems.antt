@@ -11,9 +11,10 @@ use Rattle.bind_layout.specs.Children.{Child, childData, nameTable}
 use Rattle.content.specs.Tree.{Children, bind, encode, childList, WellFormed, IsClean}
 use Rattle.content.specs.ContentCheck.{bindFault, deepest}
 use Rattle.bind_lookup.specs.declared.Place.{Place}
+use Rattle.bind_lookup.specs.declared.Source.{Source}
 use Rattle.bind_lookup.specs.declared.Source.the-variants.{Site, Default, Neither}
 use Rattle.bind_lookup.specs.ChildLookup.{markOf, countOf, placeOf, namedPlace, partAt, typeAt, nameAt}
-use Rattle.bind_lookup.specs.EitherLookup.{eitherPlace, bundleOf, eitherPart}
+use Rattle.bind_lookup.specs.EitherLookup.{eitherPlace, bundleOf, eitherData, Finds}
 
 -- these are the children of an accepted content: a well formed BIND with them is written as it
 pub record HasChildren (s : List ℕ) (cs : List Child) : Type 0 where
@@ -22,7 +23,7 @@ pub record HasChildren (s : List ℕ) (cs : List Child) : Type 0 where
   pub bytes : encode (bind tree) ≡ s
   pub children : childList tree ≡ cs
 
--- c is number n of the list
+-- c is at index n of the list
 pub record AtIndex (n : ℕ) (c : Child) (cs : List Child) : Type 0 where
   pub before : List Child
   pub after : List Child
@@ -33,7 +34,7 @@ pub record AtIndex (n : ℕ) (c : Child) (cs : List Child) : Type 0 where
 abbrev pub NoneNamed : List ℕ → List Child → Type 0
 NoneNamed x cs = Each (λ c. c .name ≡ x → ⊥) cs
 
--- c, number n, is the first of the list with the name
+-- c, at index n, is the first of the list with the name
 pub record FirstNamed (x : List ℕ) (n : ℕ) (c : Child) (cs : List Child) : Type 0 where
   pub at-index : AtIndex n c cs
   pub named : c .name ≡ x
@@ -48,11 +49,12 @@ abbrev pub placeAmong : Bool → List Child → List Child → Child → Place
 placeAmong mark cs before c =
     record { number = 0; at = 4 + 20 * length cs + length (nameTable cs) + length (flat childData before); len = length (c .content); clean = mark }
 
+-- what holds of a place holds of its number, which can be asked by itself
 pub record LookupTheorems : Type 0 where
   -- an accepted content has children
   pub some : (s : List ℕ) → Bytes s → bindFault deepest s ≡ 0 → (cs : List Child) × HasChildren s cs
   pub count : (s : List ℕ) (cs : List Child) → HasChildren s cs → countOf s ≡ record { number = 0; count = length cs; clean = markOf s }
-  -- by number
+  -- by index
   pub place : (s : List ℕ) (cs : List Child) (n : ℕ) (c : Child) → HasChildren s cs → (k : AtIndex n c cs) → placeOf s n ≡ placeAmong (markOf s) cs (k .before) c
   pub content : (s : List ℕ) (cs : List Child) (n : ℕ) (c : Child) → HasChildren s cs → AtIndex n c cs → partAt (placeOf s n) s ≡ c .content
   pub type : (s : List ℕ) (cs : List Child) (n : ℕ) (c : Child) → HasChildren s cs → AtIndex n c cs → typeAt s n ≡ c .typeText
@@ -75,12 +77,12 @@ pub record LookupTheorems : Type 0 where
   pub empty : (s : List ℕ) (n : ℕ) → (placeOf s n .number ≡ 0 → ⊥) → (partAt (placeOf s n) s ≡ []) × (typeAt s n ≡ []) × (nameAt s n ≡ [])
   pub empty-named : (s x : List ℕ) → (namedPlace s x .number ≡ 0 → ⊥) → partAt (namedPlace s x) s ≡ []
 
--- of two bundles, by cases on both
+-- of two bundles, by cases on both. What `find` answers is put together of these (Finds)
 pub record EitherTheorems : Type 0 where
   pub site : (a b : List ℕ) (cs ds : List Child) (x : List ℕ) (n : ℕ) (c : Child) → HasChildren a cs → HasChildren b ds → FirstNamed x n c cs
-      → (eitherPlace a b x ≡ record { number = 0; source = Site; at = placeOf a n .at; len = placeOf a n .len; clean = markOf a }) × (eitherPart (eitherPlace a b x) a b ≡ c .content)
+      → (eitherPlace a b x ≡ record { number = 0; source = Site; at = placeOf a n .at; len = placeOf a n .len; clean = markOf a }) × (eitherData a b x ≡ c .content)
   pub default : (a b : List ℕ) (cs ds : List Child) (x : List ℕ) (n : ℕ) (c : Child) → HasChildren a cs → HasChildren b ds → NoneNamed x cs → FirstNamed x n c ds
-      → (eitherPlace a b x ≡ record { number = 0; source = Default; at = placeOf b n .at; len = placeOf b n .len; clean = markOf b }) × (eitherPart (eitherPlace a b x) a b ≡ c .content)
+      → (eitherPlace a b x ≡ record { number = 0; source = Default; at = placeOf b n .at; len = placeOf b n .len; clean = markOf b }) × (eitherData a b x ≡ c .content)
   -- the mark is that of the bundle answered from
   pub mark : (a b x : List ℕ) → eitherPlace a b x .number ≡ 0 → Marks (eitherPlace a b x .clean) (bundleOf (eitherPlace a b x .source) a b)
   pub neither : (a b : List ℕ) (cs ds : List Child) (x : List ℕ) → HasChildren a cs → HasChildren b ds → NoneNamed x cs → NoneNamed x ds
@@ -89,4 +91,7 @@ pub record EitherTheorems : Type 0 where
   pub default-fault : (a b x : List ℕ) → bindFault deepest a ≡ 0 → (bindFault deepest b ≡ 0 → ⊥)
       → eitherPlace a b x ≡ record { number = bindFault deepest b; source = Neither; at = 0; len = 0; clean = false }
   -- a refusal is of neither bundle, and its part has no bytes (rule 5.6)
-  pub empty : (a b x : List ℕ) → (eitherPlace a b x .number ≡ 0 → ⊥) → (eitherPlace a b x .source ≡ Neither) × (eitherPart (eitherPlace a b x) a b ≡ [])
+  pub empty : (a b x : List ℕ) → (eitherPlace a b x .number ≡ 0 → ⊥) → (eitherPlace a b x .source ≡ Neither) × (eitherData a b x ≡ [])
+  -- what `find` answers is no other number, part, source or mark
+  pub found : (a b x : List ℕ) (number : ℕ) (bytes : List ℕ) (source : Source) (mark : Bool) → Finds a b x number bytes source mark
+      → (number ≡ eitherPlace a b x .number) × (bytes ≡ eitherData a b x) × (source ≡ eitherPlace a b x .source) × (mark ≡ eitherPlace a b x .clean)

@@ -1,11 +1,12 @@
 // The walks of a look-up over a BIND content, of any bytes: each goes down what is left of the names, or of the headers and the data, so
 // its time is linear in the content. Nothing is checked here.
+use bind_layout::bind_parts::CHILD_HEADER_SIZE;
 ghost use mathlib.Core.Path.{_≡_};
 ghost use Prim.Native.Nat.{_<_};
 ghost use Rattle.bind_layout.specs.BindLayout.{headers, dataOf};
 ghost use Rattle.bind_lookup.specs.ChildLookup.{headersFrom, namesFrom, dataFrom, indexIn, indexOf};
 
-// The number of the first of n names that is this one, or n where none is.
+// The index of the first of n names that is this one, or n where none is.
 fn index_in(table: &[u8], name: &[u8], n: usize) -> usize
     ensures { λ r. ⌜ r ≡ indexIn n (now (table .entry)) (now (name .entry)) ⌝ }
 {
@@ -59,7 +60,7 @@ pub(crate) fn data_from(content: &[u8], i: usize) -> &[u8]
             bind_layout::bind_parts::size_of(h),
         );
         d = next_data;
-        let next_headers = fields::slice::rest(h, 20);
+        let next_headers = fields::slice::rest(h, CHILD_HEADER_SIZE);
         h = next_headers;
         left -= 1;
     }
@@ -71,8 +72,8 @@ pub(crate) fn headers_from(content: &[u8], i: usize) -> &[u8]
     ensures { λ r. ⌜ now r ≡ headersFrom i (now (content .entry)) ⌝ }
 {
     let h = bind_layout::bind_parts::headers(content);
-    if h.len() / 20 < i {
+    if h.len() / CHILD_HEADER_SIZE < i {
         return &h[..0];
     }
-    fields::slice::rest(h, 20 * i)
+    fields::slice::rest(h, CHILD_HEADER_SIZE * i)
 }

@@ -1,4 +1,4 @@
-// Look-ups of a BIND's children, by number and by name, in one bundle and in two (rules 6.1 and 6.2). Each call checks a bundle once, to
+// Look-ups of a BIND's children, by index and by name, in one bundle and in two (rules 6.1 and 6.2). Each call checks a bundle once, to
 // its innermost children, and answers its fault before its own. A part that is handed back lies in the lent content; an empty child looks
 // like a refusal there, so ask the number first.
 mod child_walk;
@@ -6,7 +6,7 @@ mod child_walk;
 ghost use mathlib.Core.Path.{_≡_};
 ghost use Rattle.fields.specs.Checks.{orElse};
 ghost use Rattle.bind_lookup.specs.ChildLookup.{countOf, indexFault, placeIn, placeOf, namedPlace, partAt, typeAt, nameAt};
-ghost use Rattle.bind_lookup.specs.EitherLookup.{sourced, eitherPlace, eitherPart};
+ghost use Rattle.bind_lookup.specs.EitherLookup.{sourced, eitherPlace, eitherPart, eitherData, Finds};
 
 // The number (rule 5.1), and how many children there are: 0 where refused. In each of these answers `clean` is the mark of the whole bundle
 // answered from (rule 13.4): false where refused.
@@ -40,15 +40,16 @@ pub struct EitherPlace {
     pub clean: bool,
 }
 
-// A child's data, which bundle it is a part of, and that bundle's mark. Neither tells a refusal, whose part is empty.
+// The number, a child's data, which bundle it is a part of, and that bundle's mark. The part of a refusal is empty.
 pub struct Found<'a> {
+    pub number: u8,
     pub part: &'a [u8],
     pub source: Source,
     pub clean: bool,
 }
 
 // The fault of the content, or 19 where it has no child i.
-fn child_fault(fault: u8, content: &[u8], i: usize) -> u8
+fn index_fault(fault: u8, content: &[u8], i: usize) -> u8
     ensures { λ r. ⌜ r ≡ indexFault fault (now (content .entry)) i ⌝ }
 {
     if fault != 0 {
@@ -64,7 +65,7 @@ fn child_fault(fault: u8, content: &[u8], i: usize) -> u8
 fn place_in(fault: u8, clean: bool, content: &[u8], i: usize) -> Place
     ensures { λ r. ⌜ r ≡ placeIn fault clean (now (content .entry)) i ⌝ }
 {
-    let number = child_fault(fault, content, i);
+    let number = index_fault(fault, content, i);
     if number != 0 {
         return Place {
             number: number,
@@ -100,7 +101,7 @@ pub fn child_count(content: &[u8]) -> ChildCount
     }
 }
 
-// Where the data of child i stands; children are at-index from 0.
+// Where the data of child i stands; indices are counted from 0.
 pub fn child_place(content: &[u8], i: usize) -> Place
     ensures { λ r. ⌜ r ≡ placeOf (now (content .entry)) i ⌝ }
 {
@@ -121,7 +122,21 @@ pub fn named_place(content: &[u8], name: &[u8]) -> Place
     )
 }
 
-// The data of child i. An empty child looks like a refusal: ask child_place's number first.
+// The number of the look-up of child i by itself.
+pub fn child_fault(content: &[u8], i: usize) -> u8
+    ensures { λ r. ⌜ r ≡ placeOf (now (content .entry)) i .number ⌝ }
+{
+    child_place(content, i).number
+}
+
+// The number of the look-up of a name by itself.
+pub fn named_fault(content: &[u8], name: &[u8]) -> u8
+    ensures { λ r. ⌜ r ≡ namedPlace (now (content .entry)) (now (name .entry)) .number ⌝ }
+{
+    named_place(content, name).number
+}
+
+// The data of child i. An empty child looks like a refusal: ask child_fault first.
 pub fn child(content: &[u8], i: usize) -> &[u8]
     ensures { λ r. ⌜ now r ≡ partAt (placeOf (now (content .entry)) i) (now (content .entry)) ⌝ }
 {
@@ -129,7 +144,7 @@ pub fn child(content: &[u8], i: usize) -> &[u8]
     fields::slice::part(content, p.at, p.len)
 }
 
-// The data of the first child of this name. An empty child looks like a refusal: ask named_place's number first.
+// The data of the first child of this name. An empty child looks like a refusal: ask named_fault first.
 pub fn named<'a>(content: &'a [u8], name: &[u8]) -> &'a [u8]
     ensures { λ r. ⌜ now r ≡ partAt (namedPlace (now (content .entry)) (now (name .entry))) (now (content .entry)) ⌝ }
 {
@@ -137,21 +152,21 @@ pub fn named<'a>(content: &'a [u8], name: &[u8]) -> &'a [u8]
     fields::slice::part(content, p.at, p.len)
 }
 
-// The text of child i's type. An empty type looks like a refusal: ask child_place's number first.
+// The text of child i's type. An empty type looks like a refusal: ask child_fault first.
 pub fn child_type(content: &[u8], i: usize) -> &[u8]
     ensures { λ r. ⌜ now r ≡ typeAt (now (content .entry)) i ⌝ }
 {
-    if child_fault(content::bind_fault(content), content, i) != 0 {
+    if child_fault(content, i) != 0 {
         return &content[..0];
     }
     bind_layout::bind_parts::type_of(child_walk::headers_from(content, i))
 }
 
-// Child i's name. An empty name looks like a refusal: ask child_place's number first.
+// Child i's name. An empty name looks like a refusal: ask child_fault first.
 pub fn child_name(content: &[u8], i: usize) -> &[u8]
     ensures { λ r. ⌜ now r ≡ nameAt (now (content .entry)) i ⌝ }
 {
-    if child_fault(content::bind_fault(content), content, i) != 0 {
+    if child_fault(content, i) != 0 {
         return &content[..0];
     }
     fields::text::text_of(child_walk::names_from(bind_layout::bind_parts::table_of(content), i))
@@ -213,6 +228,12 @@ pub fn either_fault(site: &[u8], default: &[u8], name: &[u8]) -> u8
     either_place(site, default, name).number
 }
 
+fn number_of(p: EitherPlace) -> u8
+    ensures { λ r. ⌜ r ≡ p .number ⌝ }
+{
+    p.number
+}
+
 fn source_of(p: EitherPlace) -> Source
     ensures { λ r. ⌜ r ≡ p .source ⌝ }
 {
@@ -251,19 +272,21 @@ fn either_part<'a>(site: &'a [u8], default: &'a [u8], p: EitherPlace) -> &'a [u8
 
 // The data of the child found in one of the two. An empty child looks like a refusal: ask either_fault first.
 pub fn either<'a>(site: &'a [u8], default: &'a [u8], name: &[u8]) -> &'a [u8]
-    ensures { λ r. ⌜ now r ≡ eitherPart (eitherPlace (now (site .entry)) (now (default .entry)) (now (name .entry))) (now (site .entry)) (now (default .entry)) ⌝ }
+    ensures { λ r. ⌜ now r ≡ eitherData (now (site .entry)) (now (default .entry)) (now (name .entry)) ⌝ }
 {
     let p = either_place(site, default, name);
     either_part(site, default, p)
 }
 
-// The data of the child found in one of the two, in which, and the mark, in one answer.
+// The number, the data of the child found in one of the two, in which, and the mark, in one answer.
 pub fn find<'a>(site: &'a [u8], default: &'a [u8], name: &[u8]) -> Found<'a>
-    ensures { λ r. ⌜ (now (r .part) ≡ eitherPart (eitherPlace (now (site .entry)) (now (default .entry)) (now (name .entry))) (now (site .entry)) (now (default .entry))) × (r .source ≡ eitherPlace (now (site .entry)) (now (default .entry)) (now (name .entry)) .source) × (r .clean ≡ eitherPlace (now (site .entry)) (now (default .entry)) (now (name .entry)) .clean) ⌝ }
+    ensures { λ r. ⌜ Finds (now (site .entry)) (now (default .entry)) (now (name .entry)) (r .number) (now (r .part)) (r .source) (r .clean) ⌝ }
 {
     let p = either_place(site, default, name);
+    let part = either_part(site, default, p);
     Found {
-        part: either_part(site, default, p),
+        number: number_of(p),
+        part,
         source: source_of(p),
         clean: clean_of(p),
     }

@@ -5,8 +5,7 @@ use mathlib.Core.Bool.{true}
 use mathlib.Core.List.{List, [], _∷_, _++_, map}
 use native.Mathlib.Omega.{arith}
 use lib.Dec.{leb}
-use lib.ListN.{length, take, drop, replicate, length-map}
-use lib.Seq.{take-at, drop-at}
+use lib.ListN.{length, drop, replicate, length-map}
 use borrow.Author.Tests.{leb-true, le-leb}
 use Rattle.fields.specs.Bytes.{Bytes}
 use Rattle.fields.specs.Lists.{allOf, Each, flat}
@@ -17,11 +16,12 @@ use Rattle.fields.specs.Checks.{orElse}
 use Rattle.fields.specs.declared.Checked.{Checked}
 use Rattle.fields.specs.Answer.{writtenNumber, writtenCount, roomFault}
 use Rattle.fields.specs.declared.Written.the-variants.{Wrote}
-use Rattle.fields.proofs.Laws.Checks.{and-split, and-join, zero-else, else-zero}
+use Rattle.fields.proofs.Laws.Checks.{and-split, and-join, zero-else}
 use Rattle.fields.proofs.Laws.Tests.{is-false}
 use Rattle.fields.proofs.Laws.Lists.{each-all}
 use Rattle.fields.proofs.Laws.Text.{is-text, text-is}
-use Rattle.fields.proofs.Laws.Answer.{written-wrote, written-number, room-enough, out-wrote, out-refused}
+use Rattle.fields.specs.Writers.{WriterTheorems}
+use Rattle.fields.proofs.Laws.Writers.{answer-wrote, writer-theorems}
 use Rattle.bind_layout.specs.Children.{Child, padded, childName, childData, nameTable, encodeChildren, WellChild, WellBundle}
 use Rattle.bind_layout.proofs.Laws.Written.{length-encode}
 use Rattle.bind_layout.proofs.Laws.BundleTheorems.{bundle-unique}
@@ -38,8 +38,8 @@ use Rattle.content.proofs.ContentTheorems.{content-theorems}
 use Rattle.cleaning.specs.CleanBytes.{cleanBytes}
 use Rattle.cleaning.proofs.Laws.CleaningTheorems.{cleaning-theorems}
 use Rattle.bind_writer.specs.ChildLists.{children, typesOf, namesOf, contentsOf, SizesFit}
-use Rattle.bind_writer.specs.BindWriter.{typeOk, textsOk, listsOk, childFault, writeFault, cleanChild, written, bindWritten, bindOut}
-use Rattle.bind_writer.specs.BindWriterTheorems.{Writable, countOf, bytesOf, ReadBack, BindWriterTheorems}
+use Rattle.bind_writer.specs.BindWriter.{typeOk, textsOk, listsOk, childFault, givenFault, cleanChild, written, bindBytes, bindWritten, bindOut}
+use Rattle.bind_writer.specs.BindWriterTheorems.{Writable, bytesOf, ReadBack, BindWriterTheorems}
 use Rattle.bind_writer.proofs.Laws.Children.{lists-of, plain, children-of}
 use Rattle.bind_writer.proofs.Laws.Layout.{lists-passed, lists-pass}
 use Rattle.bind_writer.proofs.Laws.Encoding.{length-children, length-cleaned}
@@ -109,25 +109,24 @@ module _ (ts ns ds : List (List ℕ)) where
 
 -- ---- the numbers
 
-module _ (ts ns ds : List (List ℕ)) (room : ℕ) where
-  number : writtenNumber (bindWritten ts ns ds room) ≡ writeFault ts ns ds room
-  unfolding bindWritten
-  number = written-number (writeFault ts ns ds room) _
+module _ (ts ns ds : List (List ℕ)) where
+  abbrev laws : WriterTheorems (givenFault ts ns ds) (bindBytes ts ns ds)
+  laws = writer-theorems (givenFault ts ns ds) (bindBytes ts ns ds)
 
-  number-refused : SizesFit ds → (Writable ts ns ds → ⊥) → writtenNumber (bindWritten ts ns ds room) ≡ 10
-  number-refused s n = number ∙ by-lists ts ns ds room (is-false (listsOk ts ns ds) (λ e. n (lists-writable ts ns ds s e)))
+  number-refused : (room : ℕ) → SizesFit ds → (Writable ts ns ds → ⊥) → writtenNumber (bindWritten ts ns ds room) ≡ 10
+  number-refused room s n = laws .number room ∙ by-lists ts ns ds room (is-false (listsOk ts ns ds) (λ e. n (lists-writable ts ns ds s e)))
 
   -- the reader's number for what would be written is the first fault of the children
-  reader : WellBundle (children ts ns ds) → bindFault deepest (encodeChildren (children ts ns ds)) ≡ firstFault childFault (children ts ns ds)
-  reader w = sym (bind-content deepest (encodeChildren (children ts ns ds))) ∙ bind-written _ (children ts ns ds) w
+  reader : Writable ts ns ds → givenFault ts ns ds ≡ bindFault deepest (encodeChildren (children ts ns ds))
+  reader w =
+      past-lists ts ns ds (writable-pass ts ns ds w)
+      ∙ sym (sym (bind-content deepest (encodeChildren (children ts ns ds))) ∙ bind-written _ (children ts ns ds) (w .well))
 
-  number-reader : Writable ts ns ds
+  number-reader : (room : ℕ) → Writable ts ns ds
       → writtenNumber (bindWritten ts ns ds room)
       ≡ orElse (bindFault deepest (encodeChildren (children ts ns ds))) (roomFault (length (encodeChildren (children ts ns ds))) room)
-  number-reader w =
-      number
-      ∙ past-lists ts ns ds room (writable-pass ts ns ds w)
-      ∙ ap (λ (n : ℕ). orElse n (roomFault (length (encodeChildren (children ts ns ds))) room)) (sym (reader (w .well)))
+  number-reader room w =
+      laws .number room ∙ ap₂ (λ (n k : ℕ). orElse n (roomFault k room)) (reader w) (length-cleaned (children ts ns ds))
 
 -- ---- the trees of children
 
@@ -159,7 +158,7 @@ module _ (cs : Children) (w : WellFormed (bind cs) deepest) where
 
   clean-accepted : bindFault deepest (encodeChildren (childList (cleanedChildren cs))) ≡ 0
   unfolding encode cleaned
-  clean-accepted = sym (bind-content deepest _) ∙ content-theorems .well-accepted deepest (cleaned (bind cs)) clean-well
+  clean-accepted = sym (bind-content deepest _) ∙ content-theorems .two-way deepest bindText .well-accepted (cleaned (bind cs)) (clean-well, refl)
 
   clean-marked : bindChecked deepest (encodeChildren (childList (cleanedChildren cs))) .clean ≡ true
   unfolding encode cleaned
@@ -174,71 +173,38 @@ unfolding WellFormed encode
 tree-of [] b z = (none, refl, tt)
 tree-of (c ∷ cs) b z =
     let k = zero-else (childFault c) (firstFault childFault cs) z in
-    let x = content-theorems .accepted nestedLevels (c .typeText) (c .content) (b .0) (k .0) in
+    let x = content-theorems .two-way nestedLevels (c .typeText) .accepted (c .content) (b .0) (k .0) in
     let r = tree-of cs (b .1) (k .1) in (
-      more (c .rest) (c .name) (x .content) (r .0),
-      λ i. record { typeText = x .type i; rest = c .rest; name = c .name; content = x .bytes i } ∷ r .1 i,
-      (x .well, r .2),
+      more (c .rest) (c .name) (x .0) (r .0),
+      λ i. record { typeText = x .1 .1 i; rest = c .rest; name = c .name; content = x .2 i } ∷ r .1 i,
+      (x .1 .0, r .2),
     )
 
 -- ---- the buffer
 
 module _ (ts ns ds : List (List ℕ)) (out : List ℕ) where
-  buffer-kept : (writtenNumber (bindWritten ts ns ds (length out)) ≡ 0 → ⊥) → bindOut ts ns ds out ≡ out
-  unfolding bindOut
-  buffer-kept n = out-refused (writeFault ts ns ds (length out)) _ out (λ z. n (number ts ns ds (length out) ∙ z))
-
-  module _ (z : writeFault ts ns ds (length out) ≡ 0) where
-    abbrev encoded : List ℕ
-    encoded = encodeChildren (written ts ns ds)
-
-    as-long : length (encodeChildren (children ts ns ds)) ≡ length encoded
-    as-long = sym (length-cleaned (children ts ns ds))
-
-    answer-wrote : bindWritten ts ns ds (length out) ≡ Wrote (length encoded)
-    unfolding bindWritten
-    answer-wrote = written-wrote (writeFault ts ns ds (length out)) _ z ∙ ap Wrote as-long
-
-    buffer-wrote : bindOut ts ns ds out ≡ encoded ++ drop (length encoded) out
-    unfolding bindOut
-    buffer-wrote = out-wrote (writeFault ts ns ds (length out)) _ out z
-
-    count-wrote : countOf ts ns ds out ≡ length encoded
-    count-wrote = ap writtenCount answer-wrote
-
-    bytes-wrote : bytesOf ts ns ds out ≡ encoded
-    bytes-wrote =
-        ap (λ (n : ℕ). take n (bindOut ts ns ds out)) count-wrote
-        ∙ ap (take (length encoded)) buffer-wrote
-        ∙ take-at encoded (drop (length encoded) out) (length encoded) refl
-
-    beyond-wrote : drop (countOf ts ns ds out) (bindOut ts ns ds out) ≡ drop (countOf ts ns ds out) out
-    beyond-wrote =
-        ap (λ (n : ℕ). drop n (bindOut ts ns ds out)) count-wrote
-        ∙ ap (drop (length encoded)) buffer-wrote
-        ∙ drop-at encoded (drop (length encoded) out) (length encoded) refl
-        ∙ ap (λ (n : ℕ). drop n out) (sym count-wrote)
-
-    wrote : SizesFit ds → Each Bytes ds → ReadBack ts ns ds out
-    unfolding WellFormed
-    wrote s b =
-        let p = passed ts ns ds (length out) z in
-        let l = lists-of ts ns ds (lists-passed ts ns ds (p .lists) .count) in
-        let r = tree-of (children ts ns ds) (subst (Each Bytes) (sym (l .2)) b) (p .faultless) in
-        let t = r .0 in
-        let w : WellFormed (bind t) deepest = (subst WellBundle (sym (r .1)) (lists-writable ts ns ds s (p .lists) .well), r .2) in
-        let e : written ts ns ds ≡ childList (cleanedChildren t) =
-        (λ i. written (sym (l .0) i) (sym (l .1) i) (sym (l .2) i))
-        ∙ ap (λ (k : List Child). written (typesOf k) (namesOf k) (contentsOf k)) (sym (r .1))
-        ∙ tree-written t w in
-        record {
-          count = count-wrote ∙ sym as-long;
-          bytes = bytes-wrote;
-          beyond = beyond-wrote;
-          accepted = ap (bindFault deepest) (bytes-wrote ∙ ap encodeChildren e) ∙ clean-accepted t w;
-          clean = ap (λ (k : List ℕ). bindChecked deepest k .clean) (bytes-wrote ∙ ap encodeChildren e) ∙ clean-marked t w;
-          only = λ xs v q. bundle-unique xs (childList (cleanedChildren t)) v (clean-bundle t w) (q ∙ bytes-wrote ∙ ap encodeChildren e) ∙ sym e;
-        }
+  wrote : writtenNumber (bindWritten ts ns ds (length out)) ≡ 0 → SizesFit ds → Each Bytes ds → ReadBack ts ns ds out
+  unfolding WellFormed
+  wrote h s b =
+      let z = sym (laws ts ns ds .number (length out)) ∙ h in
+      let p = passed ts ns ds (length out) z in
+      let l = lists-of ts ns ds (lists-passed ts ns ds (p .lists) .count) in
+      let r = tree-of (children ts ns ds) (subst (Each Bytes) (sym (l .2)) b) (p .faultless) in
+      let t = r .0 in
+      let w : WellFormed (bind t) deepest = (subst WellBundle (sym (r .1)) (lists-writable ts ns ds s (p .lists) .well), r .2) in
+      let e : written ts ns ds ≡ childList (cleanedChildren t) =
+      (λ i. written (sym (l .0) i) (sym (l .1) i) (sym (l .2) i))
+      ∙ ap (λ (k : List Child). written (typesOf k) (namesOf k) (contentsOf k)) (sym (r .1))
+      ∙ tree-written t w in
+      let bytes : bytesOf ts ns ds out ≡ bindBytes ts ns ds = laws ts ns ds .front out h in
+      record {
+        count = ap writtenCount (answer-wrote (givenFault ts ns ds) (bindBytes ts ns ds) (length out) z) ∙ length-cleaned (children ts ns ds);
+        bytes = bytes;
+        beyond = laws ts ns ds .beyond out;
+        accepted = ap (bindFault deepest) (bytes ∙ ap encodeChildren e) ∙ clean-accepted t w;
+        clean = ap (λ (k : List ℕ). bindChecked deepest k .clean) (bytes ∙ ap encodeChildren e) ∙ clean-marked t w;
+        only = λ xs v q. bundle-unique xs (childList (cleanedChildren t)) v (clean-bundle t w) (q ∙ bytes ∙ ap encodeChildren e) ∙ sym e;
+      }
 
 -- ---- every BIND
 
@@ -315,30 +281,24 @@ module _ (cs : Children) (out : List ℕ) (w : WellFormed (bind cs) deepest) (h 
   unfolding encode
   same-length = ap (λ (l : List Child). length (encodeChildren l)) (children-of (childList cs)) ∙ plain-length (childList cs)
 
-  same-bytes : encodeChildren (written ts ns ds) ≡ encode (cleaned (bind cs))
+  same-bytes : bindBytes ts ns ds ≡ encode (cleaned (bind cs))
   unfolding encode cleaned
   same-bytes = ap encodeChildren (tree-written cs w)
 
-  tree-faultless : firstFault childFault (children ts ns ds) ≡ 0
+  tree-faultless : givenFault ts ns ds ≡ 0
   unfolding WellFormed encode
   tree-faultless =
-      ap (firstFault childFault) (children-of (childList cs))
+      past-lists ts ns ds (writable-pass ts ns ds (own-lists (childList cs) (w .0)))
+      ∙ ap (firstFault childFault) (children-of (childList cs))
       ∙ plain-faults (childList cs)
       ∙ sym (bind-written nestedLevels (childList cs) (w .0))
       ∙ content-well deepest (bind cs) w
 
-  tree-fault : writeFault ts ns ds (length out) ≡ 0
-  unfolding WellFormed
-  tree-fault =
-      past-lists ts ns ds (length out) (writable-pass ts ns ds (own-lists (childList cs) (w .0)))
-      ∙ else-zero (firstFault childFault (children ts ns ds)) (roomFault (length (encodeChildren (children ts ns ds))) (length out)) tree-faultless
-      (room-enough (length (encodeChildren (children ts ns ds))) (length out) (omega (arith, h, same-length)))
-
   tree-wrote : (bindWritten ts ns ds (length out) ≡ Wrote (length (encode (bind cs)))) × (bindOut ts ns ds out ≡ encode (cleaned (bind cs)) ++ drop (length (encode (bind cs))) out)
   tree-wrote =
-      let n : length (encodeChildren (written ts ns ds)) ≡ length (encode (bind cs)) = length-cleaned (children ts ns ds) ∙ same-length in (
-        answer-wrote ts ns ds out tree-fault ∙ ap Wrote n,
-        buffer-wrote ts ns ds out tree-fault ∙ ap₂ (λ (x : List ℕ) (k : ℕ). x ++ drop k out) same-bytes n,
+      let n : length (bindBytes ts ns ds) ≡ length (encode (bind cs)) = length-cleaned (children ts ns ds) ∙ same-length in (
+        laws ts ns ds .wrote (length out) tree-faultless (omega (arith, h, n)) ∙ ap Wrote n,
+        laws ts ns ds .buffer out tree-faultless (omega (arith, h, n)) ∙ ap₂ (λ (x : List ℕ) (k : ℕ). x ++ drop k out) same-bytes n,
       )
 
 pub bind-writer-theorems : BindWriterTheorems
@@ -348,7 +308,8 @@ bind-writer-theorems =
       passes = writable-pass;
       refused = number-refused;
       as-reader = number-reader;
-      untouched = buffer-kept;
-      read-back = λ ts ns ds out s b z. wrote ts ns ds out (sym (number ts ns ds (length out)) ∙ z) s b;
+      promised = λ ts ns ds out left answer p. (p .written, p .buffer);
+      untouched = λ ts ns ds out. laws ts ns ds .untouched out;
+      read-back = λ ts ns ds out s b h. wrote ts ns ds out h s b;
       writes = tree-wrote;
     }

@@ -12,7 +12,8 @@ use Rattle.fields.specs.Text.{isText, textOf, pastText, allZero, textOk, textCl
 use Rattle.fields.specs.Received.{fieldBytes}
 use Rattle.fields.specs.Checks.{orElse}
 use Rattle.fields.specs.declared.Checked.{Checked}
-use Rattle.fields.specs.Answer.{checked, writtenOf, roomFault, outAfter}
+use Rattle.fields.specs.Answer.{checked, roomFault}
+use Rattle.fields.specs.Writers.{writtenBy, outBy}
 use Rattle.fields.proofs.Laws.Bytes.{bytes-cons}
 use Rattle.fields.proofs.Laws.Checks.{zero-else}
 use Rattle.fields.proofs.Laws.Received.{bytes-zeros}
@@ -24,7 +25,7 @@ use Rattle.content.specs.Examples.{within, inner, outer, innerRest}
 use Rattle.content.proofs.Examples.{examples as content-examples}
 use Rattle.cleaning.specs.CleanBytes.{cleanHeaders, cleanFront, cleanDatas, cleanBind, cleanBytes}
 use Rattle.bind_writer.specs.ChildLists.{children}
-use Rattle.bind_writer.specs.BindWriter.{listsOk, listsFault, writeFault, bindWritten, bindOut}
+use Rattle.bind_writer.specs.BindWriter.{listsOk, listsFault, givenFault}
 use Rattle.bind_writer.specs.Examples.{Examples}
 
 below-256 : (s : List ℕ) → Each (λ b. b < 256) s → Bytes s
@@ -49,7 +50,7 @@ accepted = (
 )
 
 pub examples : Examples
-unfolding same sized allOf flat beVal beBytes isText textOf pastText allZero textOk textClean fieldOk textBytes fieldBytes checked writtenOf roomFault outAfter padded childHeader childName childData nameTable encodeChildren typesOk nameOk namesOk tableOk padOk blockOk dataOk layoutOk layoutFault kindOf childrenFault bindFault contentFault contentChecked cleanHeaders cleanFront cleanDatas cleanBind cleanBytes children listsOk listsFault writeFault bindWritten bindOut
+unfolding same sized allOf flat beVal beBytes isText textOf pastText allZero textOk textClean fieldOk textBytes fieldBytes checked roomFault writtenBy outBy padded childHeader childName childData nameTable encodeChildren typesOk nameOk namesOk tableOk padOk blockOk dataOk layoutOk layoutFault kindOf childrenFault bindFault contentFault contentChecked cleanHeaders cleanFront cleanDatas cleanBind cleanBytes children listsOk listsFault givenFault
 examples =
     record {
       sizes-fit = (omega arith, (omega arith, tt));
@@ -67,9 +68,9 @@ examples =
       first-fault = refl;
       children-faults = refl;
       lists-first = refl;
-      cleaned = ap (λ (n : ℕ). outAfter (orElse (orElse n 0) 0) (outer (replicate 8 0) (inner (replicate 3 0))) (replicate 101 5)) (accepted .0);
-      cleaned-count = ap (λ (n : ℕ). writtenOf (orElse (orElse n 0) 0) 100) (accepted .0);
-      cleaned-deep = ap (λ (n : ℕ). outAfter (orElse (orElse n 0) 0) (within (within (within (inner (replicate 3 0))))) (replicate 152 5)) (accepted .1);
+      cleaned = ap (λ (n : ℕ). outBy (orElse n 0) (outer (replicate 8 0) (inner (replicate 3 0))) (replicate 101 5)) (accepted .0);
+      cleaned-count = ap (λ (n : ℕ). writtenBy (orElse n 0) (outer (replicate 8 0) (inner (replicate 3 0))) 100) (accepted .0);
+      cleaned-deep = ap (λ (n : ℕ). outBy (orElse n 0) (within (within (within (inner (replicate 3 0))))) (replicate 152 5)) (accepted .1);
       as-given = refl;
       not-text = refl;
     }

@@ -8,7 +8,7 @@ use Rattle.fields.specs.Lists.{allOf}
 use Rattle.fields.specs.Numbers.{beBytes}
 use Rattle.fields.specs.Text.{isText, textBytes}
 use Rattle.fields.specs.Checks.{orElse}
-use Rattle.fields.specs.Answer.{writtenOf, roomFault, outAfter}
+use Rattle.fields.specs.Writers.{writtenBy, outBy, WriterPromise}
 use Rattle.fields.specs.declared.Written.{Written}
 use Rattle.bind_layout.specs.Children.{Child, padded, nameTable, encodeChildren}
 use Rattle.content.specs.ContentCheck.{contentFault, nestedLevels}
@@ -48,14 +48,9 @@ listsFault ts ns ds = cond (listsOk ts ns ds) 0 10
 abbrev pub childFault : Child → ℕ
 childFault c = contentFault nestedLevels (c .typeText) (c .content)
 
--- check 20
-abbrev pub spaceFault : List (List ℕ) → List (List ℕ) → List (List ℕ) → ℕ → ℕ
-spaceFault ts ns ds room = roomFault (length (encodeChildren (children ts ns ds))) room
-
--- the lists, then the children in order, then 20
-unfoldable pub writeFault : List (List ℕ) → List (List ℕ) → List (List ℕ) → ℕ → ℕ
-writeFault ts ns ds room =
-    orElse (listsFault ts ns ds) (orElse (firstFault childFault (children ts ns ds)) (spaceFault ts ns ds room))
+-- the lists, then the children in order
+unfoldable pub givenFault : List (List ℕ) → List (List ℕ) → List (List ℕ) → ℕ
+givenFault ts ns ds = orElse (listsFault ts ns ds) (firstFault childFault (children ts ns ds))
 
 -- what is written (rule 13.6): a content cleaned, with its type's text, where a BIND is level 2; the children with such contents
 abbrev pub cleanContent : List ℕ → List ℕ → List ℕ
@@ -67,6 +62,9 @@ cleanChild c = record { typeText = c .typeText; rest = c .rest; name = c .name; 
 abbrev pub written : List (List ℕ) → List (List ℕ) → List (List ℕ) → List Child
 written ts ns ds = map cleanChild (children ts ns ds)
 
+abbrev pub bindBytes : List (List ℕ) → List (List ℕ) → List (List ℕ) → List ℕ
+bindBytes ts ns ds = encodeChildren (written ts ns ds)
+
 -- a header, and the data with their pad, as the writer puts them
 abbrev pub plainHeader : Child → List ℕ
 plainHeader c = textBytes 12 (c .typeText) ++ beBytes 8 (length (c .content))
@@ -74,9 +72,13 @@ plainHeader c = textBytes 12 (c .typeText) ++ beBytes 8 (length (c .content))
 abbrev pub cleanData : Child → List ℕ
 cleanData c = padded (cleanContent (c .typeText) (c .content))
 
--- the answer, and the buffer
-unfoldable pub bindWritten : List (List ℕ) → List (List ℕ) → List (List ℕ) → ℕ → Written
-bindWritten ts ns ds room = writtenOf (writeFault ts ns ds room) (length (encodeChildren (children ts ns ds)))
+-- the answer for a buffer of this length, and the buffer: the fault of the lists and the children, then 20
+abbrev pub bindWritten : List (List ℕ) → List (List ℕ) → List (List ℕ) → ℕ → Written
+bindWritten ts ns ds room = writtenBy (givenFault ts ns ds) (bindBytes ts ns ds) room
 
-unfoldable pub bindOut : List (List ℕ) → List (List ℕ) → List (List ℕ) → List ℕ → List ℕ
-bindOut ts ns ds out = outAfter (writeFault ts ns ds (length out)) (encodeChildren (written ts ns ds)) out
+abbrev pub bindOut : List (List ℕ) → List (List ℕ) → List (List ℕ) → List ℕ → List ℕ
+bindOut ts ns ds out = outBy (givenFault ts ns ds) (bindBytes ts ns ds) out
+
+-- what the writer promises of its answer and of the buffer left
+abbrev pub BindPromise : List (List ℕ) → List (List ℕ) → List (List ℕ) → List ℕ → Written → List ℕ → Type 0
+BindPromise ts ns ds out answer left = WriterPromise (givenFault ts ns ds) (bindBytes ts ns ds) out answer left

@@ -8,12 +8,13 @@ use Rattle.fields.specs.Bytes.{Bytes}
 use Rattle.fields.specs.Lists.{Each}
 use Rattle.fields.specs.Checks.{orElse}
 use Rattle.fields.specs.Answer.{writtenNumber, writtenCount, roomFault}
+use Rattle.fields.specs.declared.Written.{Written}
 use Rattle.fields.specs.declared.Written.the-variants.{Wrote}
 use Rattle.bind_layout.specs.Children.{Child, encodeChildren, WellBundle}
 use Rattle.content.specs.Tree.{Children, bind, encode, childList, WellFormed, cleaned}
 use Rattle.content.specs.ContentCheck.{bindFault, bindChecked, deepest}
 use Rattle.bind_writer.specs.ChildLists.{children, typesOf, namesOf, contentsOf, SameCount, SizesFit}
-use Rattle.bind_writer.specs.BindWriter.{listsOk, written, bindWritten, bindOut}
+use Rattle.bind_writer.specs.BindWriter.{listsOk, written, bindBytes, bindWritten, bindOut, BindPromise}
 
 -- the lists give children that can be written
 pub record Writable (ts ns ds : List (List ℕ)) : Type 0 where
@@ -31,7 +32,7 @@ bytesOf ts ns ds out = take (countOf ts ns ds out) (bindOut ts ns ds out)
 -- accepts what was written and marks it clean, and no other children have these bytes
 pub record ReadBack (ts ns ds : List (List ℕ)) (out : List ℕ) : Type 0 where
   pub count : countOf ts ns ds out ≡ length (encodeChildren (children ts ns ds))
-  pub bytes : bytesOf ts ns ds out ≡ encodeChildren (written ts ns ds)
+  pub bytes : bytesOf ts ns ds out ≡ bindBytes ts ns ds
   pub beyond : drop (countOf ts ns ds out) (bindOut ts ns ds out) ≡ drop (countOf ts ns ds out) out
   pub accepted : bindFault deepest (bytesOf ts ns ds out) ≡ 0
   pub clean : bindChecked deepest (bytesOf ts ns ds out) .clean ≡ true
@@ -46,6 +47,9 @@ pub record BindWriterTheorems : Type 0 where
   pub as-reader : (ts ns ds : List (List ℕ)) (room : ℕ) → Writable ts ns ds
       → writtenNumber (bindWritten ts ns ds room)
       ≡ orElse (bindFault deepest (encodeChildren (children ts ns ds))) (roomFault (length (encodeChildren (children ts ns ds))) room)
+  -- what is promised of the writer is this answer and this buffer
+  pub promised : (ts ns ds : List (List ℕ)) (out left : List ℕ) (answer : Written) → BindPromise ts ns ds out answer left
+      → (answer ≡ bindWritten ts ns ds (length out)) × (left ≡ bindOut ts ns ds out)
   -- with any number but 0 the buffer is as it was; with 0 it is read back
   pub untouched : (ts ns ds : List (List ℕ)) (out : List ℕ) → (writtenNumber (bindWritten ts ns ds (length out)) ≡ 0 → ⊥) → bindOut ts ns ds out ≡ out
   pub read-back : (ts ns ds : List (List ℕ)) (out : List ℕ) → SizesFit ds → Each Bytes ds → writtenNumber (bindWritten ts ns ds (length out)) ≡ 0 → ReadBack ts ns ds out

@@ -1,26 +1,33 @@
 // The writer of a BIND content, from its children's types, names and contents. It refuses before the first byte is written, and makes no
 // sum of lengths that could wrap: what is left is counted down.
+use bind_layout::bind_parts::CHILD_HEADER_SIZE;
+use bind_layout::bind_parts::CTYPE_SIZE;
+use fields::number::SIZE_LIMIT;
 ghost use mathlib.Core.Path.{_≡_};
 ghost use mathlib.Core.Bool.{true};
 ghost use mathlib.Core.List.{map, _++_};
 ghost use Prim.Native.Nat.{_+_, _*_, _%_, _≤_, min};
-ghost use lib.Dec.{leb};
 ghost use lib.ListN.{length, replicate};
 ghost use lib.Seq.{sets};
 ghost use Rattle.fields.specs.Lists.{allOf, flat};
 ghost use Rattle.fields.specs.Numbers.{beBytes};
 ghost use Rattle.fields.specs.Text.{textBytes};
+ghost use Rattle.fields.specs.Answer.{roomFault};
+ghost use Rattle.fields.specs.Writers.{writerFault};
 ghost use Rattle.bind_layout.specs.Children.{padded, encodeChildren, ended};
 ghost use Rattle.content.specs.ContentCheck.{contentFault, nestedLevels};
 ghost use Rattle.content.specs.ContentTheorems.{firstFault};
 ghost use Rattle.bind_writer.specs.ChildLists.{children, WithNames, WithContents};
-ghost use Rattle.bind_writer.specs.BindWriter.{typeOk, textsOk, listsOk, childFault, spaceFault, writeFault, cleanContent, written, plainHeader, cleanData, bindWritten, bindOut};
+ghost use Rattle.bind_writer.specs.BindWriter.{typeOk, textsOk, listsOk, childFault, givenFault, cleanContent, bindBytes, plainHeader, cleanData, BindPromise};
+
+// One more than NAME_TABLE_SIZE can say (rule 4.9).
+const TOO_LONG: usize = SIZE_LIMIT + 1;
 
 // Is it a text that a CTYPE of 12 bytes holds?
 fn type_ok(type_text: &[u8]) -> bool
     ensures { λ r. ⌜ r ≡ typeOk (now («type_text» .entry)) ⌝ }
 {
-    if 12 < type_text.len() {
+    if CTYPE_SIZE < type_text.len() {
         return false;
     }
     fields::text::is_text(type_text)
@@ -55,8 +62,8 @@ fn names_len(names: &[&[u8]]) -> usize
     while i < names.len() {
         let name = names[i];
         let n = name.len();
-        if 65535 - sum <= n {
-            return 65536;
+        if SIZE_LIMIT - sum <= n {
+            return TOO_LONG;
         }
         sum = sum + n + 1;
         i += 1;
@@ -74,14 +81,14 @@ fn lists_ok(types: &[&[u8]], names: &[&[u8]], contents: &[&[u8]]) -> bool
     if contents.len() != types.len() {
         return false;
     }
-    if 65535 < types.len() {
+    if SIZE_LIMIT < types.len() {
         return false;
     }
     if !texts_ok(types, names) {
         return false;
     }
     let n = names_len(names);
-    if 65535 < n + n % 2 {
+    if SIZE_LIMIT < n + n % 2 {
         return false;
     }
     true
@@ -112,46 +119,51 @@ fn first_fault(types: &[&[u8]], contents: &[&[u8]]) -> u8
     0
 }
 
-// Do the contents, each with its pad, take at most so many bytes?
-fn data_fits(contents: &[&[u8]], room: usize) -> bool
-    ensures { λ r. ⌜ r ≡ leb (length (flat padded (map now (now (contents .entry))))) room ⌝ }
+// The length of the contents, each with its pad; `most` where it is more than that.
+fn data_len(contents: &[&[u8]], most: usize) -> usize
+    ensures { λ r. ⌜ r ≡ min (length (flat padded (map now (now (contents .entry))))) most ⌝ }
 {
-    let mut left = room;
+    let mut left = most;
     let mut i = 0;
     while i < contents.len() {
         let content = contents[i];
         let n = content.len();
         if left < n {
-            return false;
+            return most;
         }
         if left - n < n % 2 {
-            return false;
+            return most;
         }
         left = left - n - n % 2;
         i += 1;
     }
-    true
+    most - left
 }
 
-// Check 20. What stands before the data is short, as the lists passed their check.
+// Check 20. What stands before the data is short, as the lists passed their check. It is compared first, so that no sum overflows.
 fn space_fault(types: &[&[u8]], names: &[&[u8]], contents: &[&[u8]], room: usize) -> u8
     requires { ⌜ listsOk (map now (now types)) (map now (now names)) (map now (now contents)) ≡ true ⌝ }
-    ensures { λ r. ⌜ r ≡ spaceFault (map now (now (types .entry))) (map now (now (names .entry))) (map now (now (contents .entry))) room ⌝ }
+    ensures { λ r. ⌜ r ≡ roomFault (length (bindBytes (map now (now (types .entry))) (map now (now (names .entry))) (map now (now (contents .entry))))) room ⌝ }
 {
     let n = names_len(names);
-    let front = 4 + 20 * types.len() + n + n % 2;
+    let front = 4 + CHILD_HEADER_SIZE * types.len() + n + n % 2;
     if room < front {
-        return 20;
+        return fields::room_fault(front, room);
     }
-    if !data_fits(contents, room - front) {
-        return 20;
-    }
-    0
+    let left = room - front;
+    fields::room_fault(data_len(contents, left + 1), left)
 }
 
 // All checks, in order.
 fn write_fault(types: &[&[u8]], names: &[&[u8]], contents: &[&[u8]], room: usize) -> u8
-    ensures { λ r. ⌜ r ≡ writeFault (map now (now (types .entry))) (map now (now (names .entry))) (map now (now (contents .entry))) room ⌝ }
+    ensures { λ r.
+        ⌜
+        r
+        ≡ writerFault
+        (givenFault (map now (now (types .entry))) (map now (now (names .entry))) (map now (now (contents .entry))))
+        (bindBytes (map now (now (types .entry))) (map now (now (names .entry))) (map now (now (contents .entry))))
+        room
+        ⌝ }
 {
     if !lists_ok(types, names, contents) {
         return 10;
@@ -179,7 +191,7 @@ fn put_header(type_text: &[u8], size: usize, at: usize, out: &mut [u8])
     ensures { λ _. ⌜ now (out .exit) ≡ sets (now (out .entry)) at (textBytes 12 (now («type_text» .entry)) ++ beBytes 8 size) ⌝ }
 {
     fields::text::put_text12(type_text, at, out);
-    fields::number::put64(size as u64, at + 12, out);
+    fields::number::put64(size as u64, at + CTYPE_SIZE, out);
 }
 
 // Writes the headers, from behind N_CHILD on.
@@ -192,7 +204,7 @@ fn put_headers(types: &[&[u8]], contents: &[&[u8]], out: &mut [u8])
         let type_text = types[i];
         let content = contents[i];
         let size = content.len();
-        put_header(type_text, size, 2 + 20 * i, out);
+        put_header(type_text, size, 2 + CHILD_HEADER_SIZE * i, out);
         i += 1;
     }
 }
@@ -231,7 +243,7 @@ fn put_content(type_text: &[u8], content: &[u8], at: usize, out: &mut [u8]) -> u
     ensures bytes { λ _. ⌜ now (out .exit) ≡ sets (now (out .entry)) at (padded (cleanContent (now («type_text» .entry)) (now (content .entry)))) ⌝ }
 {
     let n = content.len();
-    cleaning::put_clean(type_text, content, 3, at, out);
+    cleaning::put_clean(type_text, content, content::NESTED_LEVELS, at, out);
     put_pad(n, at + n, out);
     at + n + n % 2
 }
@@ -254,9 +266,17 @@ fn put_contents(types: &[&[u8]], contents: &[&[u8]], at: usize, out: &mut [u8]) 
 
 // Writes NAME_TABLE_SIZE and the table, and gives the place behind them.
 fn put_table(names: &[&[u8]], at: usize, out: &mut [u8]) -> usize
-    requires { ⌜ (length (padded (flat ended (map now (now names)))) ≤ 65535) × (at + (2 + length (padded (flat ended (map now (now names))))) ≤ length (now out)) ⌝ }
+    requires { ⌜
+        (length (padded (flat ended (map now (now names)))) ≤ 65535)
+        × (at + (2 + length (padded (flat ended (map now (now names))))) ≤ length (now out))
+        ⌝ }
     ensures place { λ r. ⌜ r ≡ at + (2 + length (padded (flat ended (map now (now (names .entry)))))) ⌝ }
-    ensures bytes { λ _. ⌜ now (out .exit) ≡ sets (now (out .entry)) at (beBytes 2 (length (padded (flat ended (map now (now (names .entry)))))) ++ padded (flat ended (map now (now (names .entry))))) ⌝ }
+    ensures bytes { λ _.
+        ⌜
+        now (out .exit)
+        ≡ sets (now (out .entry)) at
+        (beBytes 2 (length (padded (flat ended (map now (now (names .entry)))))) ++ padded (flat ended (map now (now (names .entry)))))
+        ⌝ }
 {
     let n = names_len(names);
     fields::number::put16((n + n % 2) as u16, at, out);
@@ -267,14 +287,17 @@ fn put_table(names: &[&[u8]], at: usize, out: &mut [u8]) -> usize
 
 // Writes the whole content, and gives its length.
 fn put_children(types: &[&[u8]], names: &[&[u8]], contents: &[&[u8]], out: &mut [u8]) -> usize
-    requires { ⌜ (listsOk (map now (now types)) (map now (now names)) (map now (now contents)) ≡ true) × (length (encodeChildren (children (map now (now types)) (map now (now names)) (map now (now contents)))) ≤ length (now out)) ⌝ }
+    requires { ⌜
+        (listsOk (map now (now types)) (map now (now names)) (map now (now contents)) ≡ true)
+        × (length (encodeChildren (children (map now (now types)) (map now (now names)) (map now (now contents)))) ≤ length (now out))
+        ⌝ }
     ensures count { λ r. ⌜ r ≡ length (encodeChildren (children (map now (now (types .entry))) (map now (now (names .entry))) (map now (now (contents .entry))))) ⌝ }
-    ensures bytes { λ _. ⌜ now (out .exit) ≡ sets (now (out .entry)) 0 (encodeChildren (written (map now (now (types .entry))) (map now (now (names .entry))) (map now (now (contents .entry))))) ⌝ }
+    ensures bytes { λ _. ⌜ now (out .exit) ≡ sets (now (out .entry)) 0 (bindBytes (map now (now (types .entry))) (map now (now (names .entry))) (map now (now (contents .entry)))) ⌝ }
 {
     let count = types.len();
     fields::number::put16(count as u16, 0, out);
     put_headers(types, contents, out);
-    let end = put_table(names, 2 + 20 * count, out);
+    let end = put_table(names, 2 + CHILD_HEADER_SIZE * count, out);
     put_contents(types, contents, end, out)
 }
 
@@ -285,8 +308,11 @@ pub fn write_bind(
     contents: &[&[u8]],
     out: &mut [u8],
 ) -> fields::Written
-    ensures answer { λ r. ⌜ r ≡ bindWritten (map now (now (types .entry))) (map now (now (names .entry))) (map now (now (contents .entry))) (length (now (out .entry))) ⌝ }
-    ensures bytes { λ _. ⌜ now (out .exit) ≡ bindOut (map now (now (types .entry))) (map now (now (names .entry))) (map now (now (contents .entry))) (now (out .entry)) ⌝ }
+    ensures { λ r.
+        ⌜
+        BindPromise (map now (now (types .entry))) (map now (now (names .entry))) (map now (now (contents .entry)))
+        (now (out .entry)) r (now (out .exit))
+        ⌝ }
 {
     let fault = write_fault(types, names, contents, out.len());
     if fault != 0 {

@@ -1,10 +1,10 @@
--- ContentTheorems byte by byte, cleaned: what is zeroed, and what is not.
+-- Contents byte by byte, cleaned: what is zeroed, and what is not.
 use Prim.Native.Nat.{ℕ}
 use mathlib.Core.Path.{_≡_}
 use mathlib.Core.List.{List, [], _∷_, _++_}
 use lib.ListN.{replicate}
 use Rattle.content.specs.Kinds.{bindText}
-use Rattle.content.specs.Examples.{spelled, noChildren, within, inner, outer, innerRest, outerRest}
+use Rattle.content.specs.Examples.{spelled, within, inner, outer, innerRest, outerRest}
 use Rattle.cleaning.specs.CleanBytes.{cleanBytes, cleanPut}
 
 -- so many levels, of a BIND

@@ -1,5 +1,7 @@
-// ContentTheorems written clean (rule 13.6): the rest of each CTYPE zeroed, at every level of a BIND. All else is written as it is given. The parts of
+// Contents written clean (rule 13.6): the rest of each CTYPE zeroed, at every level of a BIND. All else is written as it is given. The parts of
 // a BIND are written in order, straight into the lent buffer, so the time is linear in the content.
+use bind_layout::bind_parts::CHILD_HEADER_SIZE;
+use bind_layout::bind_parts::CTYPE_SIZE;
 ghost use Prim.Native.Nat.{_+_, _*_, _≤_};
 ghost use mathlib.Core.Path.{_≡_};
 ghost use lib.ListN.{length};
@@ -17,10 +19,10 @@ fn put_headers(headers: &[u8], n: usize, at: usize, out: &mut [u8])
     let mut left = n;
     while 0 < left {
         fields::text::put_text12(bind_layout::bind_parts::type_of(h), to, out);
-        fields::store::put(fields::slice::part(h, 12, 8), to + 12, out);
-        let next = fields::slice::rest(h, 20);
+        fields::store::put(fields::slice::part(h, CTYPE_SIZE, 8), to + CTYPE_SIZE, out);
+        let next = fields::slice::rest(h, CHILD_HEADER_SIZE);
         h = next;
-        to += 20;
+        to += CHILD_HEADER_SIZE;
         left -= 1;
     }
 }
@@ -37,7 +39,7 @@ fn put_front(content: &[u8], at: usize, out: &mut [u8])
     put_headers(bind_layout::bind_parts::headers(content), n, at + 2, out);
     fields::store::put(
         fields::slice::first(after, 2 + table_size),
-        at + 2 + 20 * n,
+        at + 2 + CHILD_HEADER_SIZE * n,
         out,
     );
 }
@@ -89,7 +91,7 @@ fn put_bind(content: &[u8], levels: u32, at: usize, out: &mut [u8])
             to + child.len(),
             out,
         );
-        let next_headers = fields::slice::rest(h, 20);
+        let next_headers = fields::slice::rest(h, CHILD_HEADER_SIZE);
         h = next_headers;
         let next_data = bind_layout::bind_parts::after_block(d, size);
         d = next_data;
@@ -101,10 +103,10 @@ fn put_bind(content: &[u8], levels: u32, at: usize, out: &mut [u8])
 fn bounded_levels(levels: u32) -> u32
     ensures { λ r. ⌜ r ≡ boundedLevels levels ⌝ }
 {
-    if levels <= 4 {
+    if levels <= content::DEEPEST {
         return levels;
     }
-    4
+    content::DEEPEST
 }
 
 // Writes a content of the type with this text at a place, cleaned to so many levels of BIND, at most four. Writes nothing where it does not

@@ -7,8 +7,8 @@ use Rattle.fields.specs.Text.{isText, textOf, pastText, allZero, textOk, textCl
 use Rattle.fields.specs.Received.{fieldBytes}
 use Rattle.fields.specs.Answer.{checked}
 use Rattle.pose.specs.Transform.{transformFault}
-use Rattle.pose.specs.Position.{wordsIn, positionFault}
-use Rattle.image.specs.Image.{scalarSize, kindOk, headerOk, ruleFault, headerOf, imageFault}
+use Rattle.pose.specs.Position.{countFault, positionFault}
+use Rattle.image.specs.ImageReader.{scalarSize, kindOk, headerOk, ruleFault, headerOf, imageFault}
 use Rattle.bind_layout.specs.Children.{padded, childHeader, childName, childData, nameTable, encodeChildren}
 use Rattle.bind_layout.specs.BindLayout.{typesOk, typesClean, nameOk, namesOk, tableOk, padOk, blockOk, dataOk, layoutOk, layoutFault}
 use Rattle.content.specs.Kinds.{kindOf}
@@ -16,7 +16,7 @@ use Rattle.content.specs.ContentCheck.{childrenFault, bindFault, content
 use Rattle.content.specs.Examples.{Examples}
 
 pub examples : Examples
-unfolding same sized allOf flat beVal beBytes isText textOf pastText allZero textOk textClean fieldOk textBytes fieldBytes checked transformFault wordsIn positionFault scalarSize kindOk headerOk ruleFault headerOf imageFault padded childHeader childName childData nameTable encodeChildren typesOk typesClean nameOk namesOk tableOk padOk blockOk dataOk layoutOk layoutFault kindOf childrenFault bindFault contentFault childrenClean bindClean contentClean contentChecked
+unfolding same sized allOf flat beVal beBytes isText textOf pastText allZero textOk textClean fieldOk textBytes fieldBytes checked transformFault countFault positionFault scalarSize kindOk headerOk ruleFault headerOf imageFault padded childHeader childName childData nameTable encodeChildren typesOk typesClean nameOk namesOk tableOk padOk blockOk dataOk layoutOk layoutFault kindOf childrenFault bindFault contentFault childrenClean bindClean contentClean contentChecked
 examples =
     record {
       transform-text = refl;

@@ -9,7 +9,7 @@ use Rattle.fields.specs.declared.Checked.{Checked}
 use Rattle.fields.specs.Answer.{checked}
 use Rattle.pose.specs.Transform.{transformFault}
 use Rattle.pose.specs.Position.{positionFault}
-use Rattle.image.specs.Image.{imageFault}
+use Rattle.image.specs.ImageReader.{imageFault}
 use Rattle.bind_layout.specs.BindLayout.{childCount, headers, dataOf, typeOf, sizeOf, afterBlock, layoutFault, typesClean}
 use Rattle.content.specs.declared.Kind.{Kind}
 use Rattle.content.specs.declared.Kind.the-variants.{Transform, Position, Image, Bind, Other}

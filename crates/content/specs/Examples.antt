@@ -9,7 +9,6 @@ use mathlib.Core.List.{List, [], _∷_, _++_, map}
 use lib.ListN.{length, replicate}
 use Rattle.fields.specs.declared.Checked.{Checked}
 use Rattle.bind_layout.specs.Children.{Child, encodeChildren}
-use Rattle.content.specs.declared.Kind.{Kind}
 use Rattle.content.specs.declared.Kind.the-variants.{Transform, Position, Image, Bind, Other}
 use Rattle.content.specs.Kinds.{transformText, positionText, imageText, bindText, kindOf}
 use Rattle.content.specs.ContentCheck.{bindFault, contentFault, contentChecked, deepest}

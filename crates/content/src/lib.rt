@@ -1,9 +1,14 @@
-// ContentTheorems, judged by their type (rule 4.1): one dispatch, and BINDs to their innermost children (rule 4.14).
+// Contents, judged by their type (rule 4.1): one dispatch, and BINDs to their innermost children (rule 4.14).
 use fields::Checked;
 use fields::marked;
 ghost use mathlib.Core.Path.{_≡_};
 ghost use Rattle.content.specs.Kinds.{kindOf};
 ghost use Rattle.content.specs.ContentCheck.{contentFault, bindFault, contentChecked, bindChecked, deepest, nestedLevels};
+
+// How many levels of BIND there may be (rule 4.15), and how many are left for a child of the outermost.
+pub const DEEPEST: u32 = 4;
+
+pub const NESTED_LEVELS: u32 = DEEPEST - 1;
 
 // The types that have a rule; the content of any other type is opaque (rule 4.1).
 enum Kind {
@@ -75,7 +80,7 @@ fn check_bind(content: &[u8], levels: u32) -> Checked
         }
         let so_far = fields::both(clean, child.clean);
         clean = so_far;
-        let next_headers = fields::slice::rest(h, 20);
+        let next_headers = fields::slice::rest(h, bind_layout::bind_parts::CHILD_HEADER_SIZE);
         h = next_headers;
         let next_data = bind_layout::bind_parts::after_block(d, size);
         d = next_data;
@@ -89,14 +94,14 @@ fn check_bind(content: &[u8], levels: u32) -> Checked
 pub fn content_check(type_text: &[u8], content: &[u8]) -> Checked
     ensures { λ r. ⌜ r ≡ contentChecked deepest (now («type_text» .entry)) (now (content .entry)) ⌝ }
 {
-    check_content(type_text, content, 4)
+    check_content(type_text, content, DEEPEST)
 }
 
-// The same for a BIND content.
+// The same for a BIND content. It goes by the type, so that the check of a BIND has one caller.
 pub fn bind_check(content: &[u8]) -> Checked
     ensures { λ r. ⌜ r ≡ bindChecked deepest (now (content .entry)) ⌝ }
 {
-    check_bind(content, 4)
+    check_content(b"BIND", content, DEEPEST)
 }
 
 // The number alone.
@@ -111,7 +116,7 @@ pub fn content_fault(type_text: &[u8], content: &[u8]) -> u8
 pub fn nested_fault(type_text: &[u8], content: &[u8]) -> u8
     ensures { λ r. ⌜ r ≡ contentFault nestedLevels (now («type_text» .entry)) (now (content .entry)) ⌝ }
 {
-    let answer = check_content(type_text, content, 3);
+    let answer = check_content(type_text, content, NESTED_LEVELS);
     answer.number
 }
 

@@ -7,7 +7,7 @@ use Rattle.fields.specs.Bytes.{Bytes}
 use Rattle.fields.specs.Text.{Text}
 use Rattle.fields.specs.Layout.{join}
 use Rattle.crc64.specs.Crc.{crcOf}
-use Rattle.image.specs.Image.{imageFault}
+use Rattle.image.specs.ImageReader.{imageFault}
 use Rattle.image.specs.Examples as image
 use Rattle.content.specs.Kinds.{transformText}
 use Rattle.content.specs.ContentCheck.{bindFault, deepest}
@@ -21,7 +21,7 @@ use Rattle.message.specs.Samples.{armMessage, armContent}
 use Rattle.message.specs.Examples.{ofVersion2, getStatusText, body12}
 use Rattle.history.specs.Calls.{Call, linkUp, look, green, grey, refused, shown}
 use Rattle.history.specs.History.{valueFor}
-use Rattle.history.specs.BookTheorems.{armBytesCalls}
+use Rattle.history.specs.BookExamples.{armBytesCalls}
 use Rattle.panel.specs.Examples.{FromArm, armTile, armCalls, looked}
 
 -- ---- the inputs

@@ -4,14 +4,14 @@ use Rattle.fields.specs.Answer.{roomFault}
 use Rattle.fields.specs.Lists.{allOf}
 use Rattle.fields.specs.Numbers.{beVal, beBytes}
 use Rattle.fields.specs.Text.{isText, textOf, pastText, allZero, textOk, textClean, fieldOk}
-use Rattle.header.specs.Check.{headerOf, shortFault, textsFault, limitFault, headerFault}
-use Rattle.message.specs.MessageReader.{wholeFault, versionFault, bodyChecks, frontFault, numberOf, stepOf, readOf}
+use Rattle.header.specs.HeaderReader.{headerOf, shortFault, textsFault, limitFault, headerFault}
+use Rattle.message.specs.MessageReader.{wholeFault, versionFault, bodyFault, frontFault, streamFault, stepOf, readOf}
 use Rattle.feed.specs.Push.{openOf, pushFault, passedOf, fittingOf, takenIn, pushOf, storedTo, bufferOf}
 use Rattle.exports.specs.Exports.{fedFor}
 use Rattle.exports.specs.Examples.{Examples}
 
 pub examples : Examples
-unfolding roomFault allOf beVal beBytes isText textOf pastText allZero textOk textClean fieldOk headerOf shortFault textsFault limitFault headerFault wholeFault versionFault bodyChecks frontFault numberOf stepOf readOf openOf pushFault passedOf fittingOf takenIn pushOf storedTo bufferOf fedFor
+unfolding roomFault allOf beVal beBytes isText textOf pastText allZero textOk textClean fieldOk headerOf shortFault textsFault limitFault headerFault wholeFault versionFault bodyFault frontFault streamFault stepOf readOf openOf pushFault passedOf fittingOf takenIn pushOf storedTo bufferOf fedFor
 examples =
     record {
       answer-bytes = refl;
@@ -32,4 +32,10 @@ examples =
       carried = refl;
       answered-bytes = refl;
       message-given = refl;
+      cursor-bytes = refl;
+      cursor-at-wide = refl;
+      cursor-bytes-wide = refl;
+      cursor-unmarked = refl;
+      cursor-at = refl;
+      cursor-of-few = refl;
     }

@@ -5,6 +5,7 @@ use mathlib.Core.Bool.{true, false}
 use mathlib.Core.List.{List, [], _∷_, _++_, map}
 use lib.ListN.{replicate}
 use Rattle.fields.specs.Layout.{join}
+use Rattle.bind_cursor.specs.declared.Cursor.{Cursor}
 use Rattle.message.specs.declared.Layout.{Layout}
 use Rattle.message.specs.declared.Answer.{Answer}
 use Rattle.message.specs.MessageReader.{refused}
@@ -13,7 +14,7 @@ use Rattle.feed.specs.declared.PushAnswer.the-variants as pushing
 use Rattle.feed.specs.Push.{openOf}
 use Rattle.replay.specs.declared.CallAnswer.{CallAnswer}
 use Rattle.replay.specs.declared.CallAnswer.the-variants.{Accepted, Added, Empty, Green, Grey, Refused, NoCall}
-use Rattle.exports.specs.Exports.{markNumber, answerBytes, messageGiven, pushCode, pushRead, pushedBytes, fedTotal, fedBuffer, fedBytes, answerCode, carriedNumber, answeredBytes}
+use Rattle.exports.specs.Exports.{markNumber, answerBytes, messageGiven, pushCode, pushRead, pushedBytes, fedTotal, fedBuffer, fedBytes, answerCode, carriedNumber, answeredBytes, cursorBytes, cursorAt}
 
 -- eight bytes, of which the last is this
 abbrev pub byte : ℕ → List ℕ
@@ -35,6 +36,35 @@ fourteen =
       «content_len» = 11;
       «metadata_at» = 12;
       «metadata_len» = 13;
+      clean = true;
+    }
+
+-- a cursor whose numbers have eight bytes each
+abbrev pub wide : Cursor
+wide =
+    record {
+      number = 1;
+      left = 0x0202020202020202;
+      «type_at» = 0x0303030303030303;
+      «type_len» = 0x0404040404040404;
+      «name_at» = 0x0505050505050505;
+      «name_len» = 0x0606060606060606;
+      at = 0x0707070707070707;
+      len = 0x0808080808080808;
+      clean = true;
+    }
+
+abbrev pub nine : Cursor
+nine =
+    record {
+      number = 0xFF;
+      left = 2;
+      «type_at» = 3;
+      «type_len» = 4;
+      «name_at» = 5;
+      «name_len» = 6;
+      at = 0x0102030405060708;
+      len = 8;
       clean = true;
     }
 
@@ -100,3 +130,24 @@ pub record Examples : Type 0 where
         timeStamp = 2;
         sections = record { id = 3; further = 6 ∷ []; content = 7 ∷ []; metadata = 8 ∷ [] };
       }
+  -- number, how many children are left, place and length of the type, of the name, of the data; the mark
+  pub cursor-bytes : cursorBytes nine
+      ≡ join
+      (byte 0xFF
+      ∷ byte 2
+      ∷ byte 3
+      ∷ byte 4
+      ∷ byte 5
+      ∷ byte 6
+      ∷ (1 ∷ 2 ∷ 3 ∷ 4 ∷ 5 ∷ 6 ∷ 7 ∷ 8 ∷ [])
+      ∷ byte 8
+      ∷ byte 1
+      ∷ [])
+  -- all eight bytes of each number count, but of the number and the mark the last alone
+  pub cursor-at-wide : cursorAt (join (map (replicate 8) (1 ∷ 2 ∷ 3 ∷ 4 ∷ 5 ∷ 6 ∷ 7 ∷ 8 ∷ 9 ∷ []))) ≡ wide
+  pub cursor-bytes-wide : cursorBytes wide ≡ byte 1 ++ (join (map (replicate 8) (2 ∷ 3 ∷ 4 ∷ 5 ∷ 6 ∷ 7 ∷ 8 ∷ [])) ++ byte 1)
+  pub cursor-unmarked : cursorAt (replicate 71 7 ++ (0 ∷ [])) .clean ≡ false
+  -- the same cursor from its bytes; of too few bytes, what is there
+  pub cursor-at : cursorAt (cursorBytes nine) ≡ nine
+  pub cursor-of-few : cursorAt (replicate 9 7)
+      ≡ record { number = 7; left = 7; «type_at» = 0; «type_len» = 0; «name_at» = 0; «name_len» = 0; at = 0; len = 0; clean = false }

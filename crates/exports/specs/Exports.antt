@@ -1,11 +1,13 @@
 -- Answers as bytes, each number in eight; and a stream pushed in pieces of given lengths.
 use Prim.Native.Nat.{ℕ, zero, suc, _+_, _/_}
-use mathlib.Core.Bool.{Bool, true, false}
+use mathlib.Core.Bool.{Bool, true, false, not}
 use mathlib.Core.List.{List, [], _∷_, _++_}
+use lib.Dec.{eqb}
 use lib.ListN.{length, replicate, drop}
 use Rattle.fields.specs.Bytes.{part}
 use Rattle.fields.specs.Numbers.{beAt}
 use Rattle.fields.specs.Layout.{join, numberFields}
+use Rattle.bind_cursor.specs.declared.Cursor.{Cursor}
 use Rattle.message.specs.declared.Answer.{Answer}
 use Rattle.message.specs.Message.{Parts}
 use Rattle.message.specs.MessageWriter.{given}
@@ -129,3 +131,28 @@ answeredFields r = numberFields (replicate 3 8) (answerCode (r .answer) ∷ carr
 
 abbrev pub answeredBytes : Answered → List ℕ
 answeredBytes r = join (answeredFields r)
+
+-- ---- walks
+
+-- the nine numbers of a cursor with this number for its mark, and their bytes
+abbrev pub cursorNumbers : Cursor → ℕ → List ℕ
+cursorNumbers x mark =
+    x .number ∷ x .left ∷ x .«type_at» ∷ x .«type_len» ∷ x .«name_at» ∷ x .«name_len» ∷ x .at ∷ x .len ∷ mark ∷ []
+
+abbrev pub cursorBytes : Cursor → List ℕ
+cursorBytes x = join (numberFields (replicate 9 8) (cursorNumbers x (markNumber (x .clean))))
+
+-- the cursor of such bytes, and of any others: the number and the mark by their last byte
+abbrev pub cursorAt : List ℕ → Cursor
+cursorAt s =
+    record {
+      number = beAt 1 7 s;
+      left = beAt 8 8 s;
+      «type_at» = beAt 8 16 s;
+      «type_len» = beAt 8 24 s;
+      «name_at» = beAt 8 32 s;
+      «name_len» = beAt 8 40 s;
+      at = beAt 8 48 s;
+      len = beAt 8 56 s;
+      clean = not (eqb (beAt 1 71 s) 0);
+    }

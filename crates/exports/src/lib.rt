@@ -1,6 +1,7 @@
 // What programs in other languages call: the library as a static archive, for scripts/differential and scripts/bench. A slice is a pointer
 // and a length there. A layout is a number: 1 is the old one, any other the new. An answer of several numbers is written into a lent buffer, each
 // number in eight bytes.
+use bind_cursor::Cursor;
 use feed::Feed;
 use feed::OpenAnswer;
 use feed::PushAnswer;
@@ -17,12 +18,13 @@ ghost use Rattle.fields.specs.Answer.{writtenNumber, writtenCount};
 ghost use Rattle.fields.specs.Layout.{stores, numberFields};
 ghost use Rattle.crc64.specs.Crc.{crcOf};
 ghost use Rattle.content.specs.ContentCheck.{contentFault, deepest};
+ghost use Rattle.bind_cursor.specs.Cursor.{firstOf, nextOf};
 ghost use Rattle.message.specs.LayoutNumber.{layoutOf};
 ghost use Rattle.message.specs.MessageReader.{readOf};
 ghost use Rattle.message.specs.MessageWriter.{messageWritten, messageOut};
 ghost use Rattle.feed.specs.Push.{openOf};
 ghost use Rattle.replay.specs.Replay.{answerAt, lookAfter};
-ghost use Rattle.exports.specs.Exports.{fieldNumbers, partNumbers, markNumber, answerBytes, messageGiven, pushCode, pushRead, pushedBytes, started, fedBy, fedTotal, fedBuffer, fedBytes, answerCode, carriedNumber, answeredFields, answeredBytes};
+ghost use Rattle.exports.specs.Exports.{fieldNumbers, partNumbers, markNumber, answerBytes, messageGiven, pushCode, pushRead, pushedBytes, started, fedBy, fedTotal, fedBuffer, fedBytes, answerCode, carriedNumber, answeredFields, answeredBytes, cursorNumbers, cursorBytes, cursorAt};
 
 // ---- the CRC and the contents
 
@@ -117,9 +119,27 @@ pub extern "C" fn kudireppa_write(
     out: &mut [u8],
     number: &mut u8,
 ) -> usize
-    ensures count { λ r. ⌜ r ≡ writtenCount (messageWritten (layoutOf layout) (messageGiven version «time_stamp» id (now («type_text» .entry)) (now («device_name» .entry)) (now (further .entry)) (now (content .entry)) (now (metadata .entry))) (length (now (out .entry)))) ⌝ }
-    ensures number { λ _. ⌜ now (number .exit) ≡ writtenNumber (messageWritten (layoutOf layout) (messageGiven version «time_stamp» id (now («type_text» .entry)) (now («device_name» .entry)) (now (further .entry)) (now (content .entry)) (now (metadata .entry))) (length (now (out .entry)))) ⌝ }
-    ensures bytes { λ _. ⌜ now (out .exit) ≡ messageOut (layoutOf layout) (messageGiven version «time_stamp» id (now («type_text» .entry)) (now («device_name» .entry)) (now (further .entry)) (now (content .entry)) (now (metadata .entry))) (now (out .entry)) ⌝ }
+    ensures count { λ r.
+        ⌜
+        r
+        ≡ writtenCount (messageWritten (layoutOf layout)
+        (messageGiven version «time_stamp» id (now («type_text» .entry)) (now («device_name» .entry)) (now (further .entry)) (now (content .entry)) (now (metadata .entry)))
+        (length (now (out .entry))))
+        ⌝ }
+    ensures number { λ _.
+        ⌜
+        now (number .exit)
+        ≡ writtenNumber (messageWritten (layoutOf layout)
+        (messageGiven version «time_stamp» id (now («type_text» .entry)) (now («device_name» .entry)) (now (further .entry)) (now (content .entry)) (now (metadata .entry)))
+        (length (now (out .entry))))
+        ⌝ }
+    ensures bytes { λ _.
+        ⌜
+        now (out .exit)
+        ≡ messageOut (layoutOf layout)
+        (messageGiven version «time_stamp» id (now («type_text» .entry)) (now («device_name» .entry)) (now (further .entry)) (now (content .entry)) (now (metadata .entry)))
+        (now (out .entry))
+        ⌝ }
 {
     let fixed = FixedFields {
         version: version,
@@ -220,7 +240,12 @@ pub extern "C" fn kudireppa_feed(
 ) -> usize
     ensures total { λ r. ⌜ r ≡ fedTotal (openOf (layoutOf layout) (length (now (buffer .entry)))) (now (lengths .entry)) (now (stream .entry)) (now (buffer .entry)) ⌝ }
     ensures bytes { λ _. ⌜ now (buffer .exit) ≡ fedBuffer (openOf (layoutOf layout) (length (now (buffer .entry)))) (now (lengths .entry)) (now (stream .entry)) (now (buffer .entry)) ⌝ }
-    ensures out { λ _. ⌜ now (out .exit) ≡ sets (now (out .entry)) 0 (fedBytes (openOf (layoutOf layout) (length (now (buffer .entry)))) (now (lengths .entry)) (now (stream .entry)) (now (buffer .entry))) ⌝ }
+    ensures out { λ _.
+        ⌜
+        now (out .exit)
+        ≡ sets (now (out .entry)) 0
+        (fedBytes (openOf (layoutOf layout) (length (now (buffer .entry)))) (now (lengths .entry)) (now (stream .entry)) (now (buffer .entry)))
+        ⌝ }
 {
     let named = message::layout_of(layout as u64);
     let opened = feed::open_feed(named, buffer);
@@ -305,4 +330,61 @@ pub extern "C" fn kudireppa_look_after(script: &[u8], tile: usize, clock: u64, o
     ensures { λ _. ⌜ now (out .exit) ≡ sets (now (out .entry)) 0 (answeredBytes (lookAfter (now (script .entry)) tile clock)) ⌝ }
 {
     put_answered(replay::look_after(script, tile, clock), out);
+}
+
+// ---- walks through the children of a BIND
+
+// The numbers of a cursor in the order of `bind_cursor::Cursor`, its mark as a number.
+fn put_places(cursor: Cursor, mark: u64, out: &mut [u8])
+    ensures { λ _. ⌜ now (out .exit) ≡ stores (now (out .entry)) 0 (numberFields (replicate 9 8) (cursorNumbers cursor mark)) (replicate 9 8) ⌝ }
+{
+    fields::number::put64(cursor.number as u64, 0, out);
+    fields::number::put64(cursor.left as u64, 8, out);
+    fields::number::put64(cursor.type_at as u64, 16, out);
+    fields::number::put64(cursor.type_len as u64, 24, out);
+    fields::number::put64(cursor.name_at as u64, 32, out);
+    fields::number::put64(cursor.name_len as u64, 40, out);
+    fields::number::put64(cursor.at as u64, 48, out);
+    fields::number::put64(cursor.len as u64, 56, out);
+    fields::number::put64(mark, 64, out);
+}
+
+// All nine: 72 bytes.
+fn put_cursor(cursor: Cursor, out: &mut [u8])
+    ensures { λ _. ⌜ now (out .exit) ≡ sets (now (out .entry)) 0 (cursorBytes cursor) ⌝ }
+{
+    put_places(cursor, mark_number(cursor.clean), out);
+}
+
+// The cursor of such bytes. Of the number and of the mark the last byte counts, and a mark is true where that is not 0.
+fn cursor_at(bytes: &[u8]) -> Cursor
+    ensures { λ r. ⌜ r ≡ cursorAt (now (bytes .entry)) ⌝ }
+{
+    Cursor {
+        number: fields::number::be8(bytes, 7),
+        left: fields::number::be64(bytes, 8) as usize,
+        type_at: fields::number::be64(bytes, 16) as usize,
+        type_len: fields::number::be64(bytes, 24) as usize,
+        name_at: fields::number::be64(bytes, 32) as usize,
+        name_len: fields::number::be64(bytes, 40) as usize,
+        at: fields::number::be64(bytes, 48) as usize,
+        len: fields::number::be64(bytes, 56) as usize,
+        clean: fields::number::be8(bytes, 71) != 0,
+    }
+}
+
+// The cursor at the first child of a BIND content: 72 bytes.
+#[no_mangle]
+pub extern "C" fn kudireppa_first_child(content: &[u8], out: &mut [u8])
+    ensures { λ _. ⌜ now (out .exit) ≡ sets (now (out .entry)) 0 (cursorBytes (firstOf (now (content .entry)))) ⌝ }
+{
+    put_cursor(bind_cursor::first_child(content), out);
+}
+
+// The cursor after the one in these bytes, as they were written: 72 bytes.
+#[no_mangle]
+pub extern "C" fn kudireppa_next_child(content: &[u8], cursor: &[u8], out: &mut [u8])
+    ensures { λ _. ⌜ now (out .exit) ≡ sets (now (out .entry)) 0 (cursorBytes (nextOf (now (content .entry)) (cursorAt (now (cursor .entry))))) ⌝ }
+{
+    put_cursor(bind_cursor::next_child(content, cursor_at(cursor)), out);
 }

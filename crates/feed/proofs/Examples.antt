@@ -8,11 +8,11 @@ use Rattle.fields.specs.Answer.{roomFault}
 use Rattle.fields.specs.Lists.{allOf, flat}
 use Rattle.fields.specs.Numbers.{beVal}
 use Rattle.fields.specs.Text.{isText, textOf, pastText, allZero, textOk, textClean, fieldOk}
-use Rattle.header.specs.Check.{headerOf, shortFault, textsFault, limitFault, headerFault}
+use Rattle.header.specs.HeaderReader.{headerOf, shortFault, textsFault, limitFault, headerFault}
 use Rattle.message.specs.declared.Layout.{Layout}
 use Rattle.message.specs.declared.Layout.the-variants.{New, Old}
 use Rattle.message.specs.declared.Answer.{Answer}
-use Rattle.message.specs.MessageReader.{wholeFault, versionFault, bodyChecks, frontFault, numberOf, stepOf, refused, readOf}
+use Rattle.message.specs.MessageReader.{wholeFault, versionFault, bodyFault, frontFault, streamFault, stepOf, refused, readOf}
 use Rattle.message.specs.Message.{WellFormed, encode}
 use Rattle.message.specs.Samples.{armMessage, probeBytes, probeAnswer}
 use Rattle.message.proofs.Samples.{samples}
@@ -25,7 +25,7 @@ arm-sent : (l : Layout) → WellFormed l armMessage × (length (encode l armMess
 arm-sent l = (samples .arm l .well, omega (arith, ap length (samples .arm l .bytes)))
 
 common : (l : Layout) → Common l
-unfolding roomFault allOf flat beVal isText textOf pastText allZero textOk textClean fieldOk headerOf shortFault textsFault limitFault headerFault wholeFault versionFault bodyChecks frontFault numberOf stepOf readOf openOf pushFault passedOf fittingOf takenIn pushOf storedTo bufferOf runOn
+unfolding roomFault allOf flat beVal isText textOf pastText allZero textOk textClean fieldOk headerOf shortFault textsFault limitFault headerFault wholeFault versionFault bodyFault frontFault streamFault stepOf readOf openOf pushFault passedOf fittingOf takenIn pushOf storedTo bufferOf runOn
 common l =
     record {
       too-short = refl;

@@ -7,7 +7,7 @@ use mathlib.Core.List.{List, [], _++_, map}
 use lib.Dec.{eqb}
 use lib.ListN.{length, take, getD}
 use Rattle.fields.specs.Lists.{Each, flat}
-use Rattle.header.specs.Check.{headerFault}
+use Rattle.header.specs.HeaderReader.{headerFault}
 use Rattle.message.specs.declared.Layout.{Layout}
 use Rattle.message.specs.declared.Answer.{Answer}
 use Rattle.message.specs.Message.{WellFormed, Message, encode}

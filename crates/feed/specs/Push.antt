@@ -6,7 +6,7 @@ use lib.Dec.{eqb, leb, ltb}
 use lib.ListN.{length, take}
 use lib.Seq.{sets}
 use Rattle.fields.specs.Answer.{roomFault}
-use Rattle.header.specs.Check.{headerFault}
+use Rattle.header.specs.HeaderReader.{headerFault}
 use Rattle.message.specs.declared.Layout.{Layout}
 use Rattle.message.specs.MessageReader.{readOf, refused}
 use Rattle.feed.specs.Reading.{endOf}

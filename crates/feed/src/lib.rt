@@ -3,6 +3,7 @@
 use fields::room_fault;
 use fields::slice::first;
 use fields::store::put;
+use header::HEADER_SIZE;
 use message::Layout;
 use message::refusal;
 ghost use mathlib.Core.Path.{_≡_};
@@ -83,7 +84,7 @@ pub fn open_feed(layout: Layout, buffer: &[u8]) -> OpenAnswer
     ensures { λ r. ⌜ r ≡ openOf layout (length (now (buffer .entry))) ⌝ }
 {
     let room = buffer.len();
-    if room < 58 {
+    if room < HEADER_SIZE {
         return OpenAnswer::Refused(20);
     }
     OpenAnswer::Opened(keeping(layout, room, 0))
@@ -146,7 +147,7 @@ fn push_fault(feed: Feed, room: usize) -> u8
     if room != feed.room {
         return 20;
     }
-    room_fault(58, room)
+    room_fault(HEADER_SIZE, room)
 }
 
 // A fragment of n bytes, where a message of `step` bytes is passed over and `left` of them are to come.
@@ -201,8 +202,8 @@ fn take_in(layout: Layout, kept: usize, fragment: &[u8], buffer: &mut [u8]) -> P
         ⌝ }
 {
     let room = buffer.len();
-    let more = missing(kept, 58);
-    fill(kept, 58, fragment, buffer);
+    let more = missing(kept, HEADER_SIZE);
+    fill(kept, HEADER_SIZE, fragment, buffer);
     if fragment.len() < more {
         return waits(keeping(layout, room, kept + fragment.len()), fragment.len());
     }
@@ -211,7 +212,7 @@ fn take_in(layout: Layout, kept: usize, fragment: &[u8], buffer: &mut [u8]) -> P
     if number != 0 {
         return answers(stopped_feed(layout, room), refusal(number, 0), more);
     }
-    let end = 58 + header.body_size;
+    let end = HEADER_SIZE + header.body_size;
     if room < end {
         return pass(layout, room, end, end - kept, fragment.len());
     }

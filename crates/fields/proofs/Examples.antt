@@ -4,11 +4,12 @@ use mathlib.Core.Path.{refl}
 use mathlib.Core.List.{[], _∷_}
 use native.Mathlib.Omega.{arith}
 use Rattle.fields.specs.Bytes.{Bytes, same, sized}
-use Rattle.fields.specs.Lists.{allOf}
+use Rattle.fields.specs.Lists.{allOf, flat}
 use Rattle.fields.specs.Numbers.{beVal, beBytes}
 use Rattle.fields.specs.Text.{isText, textOf, pastText, allZero, textOk, textClean, fieldOk, textBytes}
 use Rattle.fields.specs.Received.{fieldBytes}
-use Rattle.fields.specs.Answer.{checked, writtenOf, roomFault, outAfter}
+use Rattle.fields.specs.Answer.{checked, roomFault}
+use Rattle.fields.specs.Writers.{countBy, writtenBy, outBy}
 use Rattle.fields.specs.Examples.{Examples}
 
 below : Bytes (255 ∷ [])
@@ -16,7 +17,7 @@ below zero = omega arith
 below (suc i) = omega arith
 
 pub examples : Examples
-unfolding same sized allOf beVal beBytes isText textOf pastText allZero textOk textClean fieldOk textBytes fieldBytes checked writtenOf roomFault outAfter
+unfolding same sized allOf flat beVal beBytes isText textOf pastText allZero textOk textClean fieldOk textBytes fieldBytes checked roomFault countBy writtenBy outBy
 examples =
     record {
       byte = below;
@@ -50,10 +51,14 @@ examples =
       two-at-three = refl;
       compared = refl;
       faults = refl;
+      table = refl;
+      items = refl;
       rooms = refl;
-      answers = refl;
       answer-numbers = refl;
       answer-counts = refl;
-      buffer = refl;
-      buffer-kept = refl;
+      wrote = refl;
+      counts = refl;
+      left = refl;
+      left-refused = refl;
+      halves = refl;
     }

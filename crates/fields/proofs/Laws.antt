@@ -6,9 +6,11 @@ pub mod Numbers
 pub mod Text
 pub mod Received
 pub mod Layout
+pub mod Tables
 pub mod Checks
 pub mod Formats
 pub mod Tests
 pub mod Stores
 pub mod Answer
+pub mod Writers
 pub mod Walks

@@ -3,15 +3,19 @@ use Prim.Native.Nat.{ℕ}
 use mathlib.Core.Path.{_≡_}
 use mathlib.Core.Bool.{true, false}
 use mathlib.Core.List.{List, [], _∷_, map}
-use lib.ListN.{replicate}
+use lib.Dec.{eqb, leb}
+use lib.ListN.{length, drop, replicate}
 use lib.Seq.{sets}
 use Rattle.fields.specs.declared.Written.the-variants.{Wrote, Refused}
 use Rattle.fields.specs.Bytes.{Bytes, part, same}
 use Rattle.fields.specs.Numbers.{beVal, beBytes, beAt}
 use Rattle.fields.specs.Text.{isText, textOf, pastText, fieldOk, textBytes}
 use Rattle.fields.specs.Received.{restOf, fieldBytes, fieldRead}
+use Rattle.fields.specs.Tables.{counted, itemsOk}
 use Rattle.fields.specs.Checks.{orElse}
-use Rattle.fields.specs.Answer.{checked, writtenNumber, writtenCount, writtenOf, roomFault, outAfter}
+use Rattle.fields.specs.Layout.{numbersAt}
+use Rattle.fields.specs.Writers.{countBy, writtenBy, outBy}
+use Rattle.fields.specs.Answer.{checked, writtenNumber, writtenCount, roomFault}
 
 -- ten bytes, each with a value of its own
 abbrev pub ten : List ℕ
@@ -69,10 +73,19 @@ pub record Examples : Type 0 where
       ≡ true ∷ false ∷ false ∷ false ∷ []
   -- the first fault of two
   pub faults : orElse 0 0 ∷ orElse 0 9 ∷ orElse 8 0 ∷ orElse 8 9 ∷ [] ≡ 0 ∷ 9 ∷ 8 ∷ 8 ∷ []
-  -- a writer's answers: three bytes into 3 and into 2, and with a fault; the numbers and counts; the buffer
+  -- two headers of two bytes, and a byte behind them; items as long as their headers say, then one that is cut off, and a byte left over
+  pub table : counted (beBytes 2) (1 ∷ 2 ∷ []) (9 ∷ []) ≡ 0 ∷ 2 ∷ 0 ∷ 1 ∷ 0 ∷ 2 ∷ 9 ∷ []
+  pub items : map (itemsOk 2 (λ h d. drop (beAt 2 0 h) d) (λ h d. leb (beAt 2 0 h) (length d)) (λ d. eqb (length d) 0) 2 (0 ∷ 1 ∷ 0 ∷ 2 ∷ []))
+      ((7 ∷ 8 ∷ 8 ∷ []) ∷ (7 ∷ 8 ∷ []) ∷ (7 ∷ 8 ∷ 8 ∷ 9 ∷ []) ∷ [])
+      ≡ true ∷ false ∷ false ∷ []
+  -- the room for three bytes; the numbers and counts of answers
   pub rooms : map (roomFault 3) (2 ∷ 3 ∷ 4 ∷ []) ≡ 20 ∷ 0 ∷ 0 ∷ []
-  pub answers : writtenOf 0 3 ∷ writtenOf 20 3 ∷ [] ≡ Wrote 3 ∷ Refused 20 ∷ []
   pub answer-numbers : map writtenNumber (Wrote 3 ∷ Refused 20 ∷ []) ≡ 0 ∷ 20 ∷ []
   pub answer-counts : map writtenCount (Wrote 3 ∷ Refused 20 ∷ []) ≡ 3 ∷ 0 ∷ []
-  pub buffer : outAfter 0 (1 ∷ 2 ∷ 3 ∷ []) (5 ∷ 5 ∷ 5 ∷ 5 ∷ []) ≡ 1 ∷ 2 ∷ 3 ∷ 5 ∷ []
-  pub buffer-kept : outAfter 20 (1 ∷ 2 ∷ 3 ∷ []) (5 ∷ 5 ∷ []) ≡ 5 ∷ 5 ∷ []
+  -- a writer of three bytes: into 4, into 2, and with the fault 8
+  pub wrote : writtenBy 0 (1 ∷ 2 ∷ 3 ∷ []) 4 ∷ writtenBy 0 (1 ∷ 2 ∷ 3 ∷ []) 2 ∷ writtenBy 8 (1 ∷ 2 ∷ 3 ∷ []) 2 ∷ [] ≡ Wrote 3 ∷ Refused 20 ∷ Refused 8 ∷ []
+  pub counts : countBy 0 (1 ∷ 2 ∷ 3 ∷ []) 4 ∷ countBy 0 (1 ∷ 2 ∷ 3 ∷ []) 2 ∷ countBy 8 (1 ∷ 2 ∷ 3 ∷ []) 4 ∷ [] ≡ 3 ∷ 0 ∷ 0 ∷ []
+  pub left : map (outBy 0 (1 ∷ 2 ∷ 3 ∷ [])) ((5 ∷ 5 ∷ 5 ∷ 5 ∷ []) ∷ (5 ∷ 5 ∷ []) ∷ []) ≡ (1 ∷ 2 ∷ 3 ∷ 5 ∷ []) ∷ (5 ∷ 5 ∷ []) ∷ []
+  pub left-refused : outBy 8 (1 ∷ 2 ∷ 3 ∷ []) (5 ∷ 5 ∷ 5 ∷ 5 ∷ []) ≡ 5 ∷ 5 ∷ 5 ∷ 5 ∷ []
+  -- three numbers from place 1 on
+  pub halves : numbersAt 1 (2 ∷ 2 ∷ 2 ∷ []) ten ≡ 0x1112 ∷ 0x1314 ∷ 0x1516 ∷ []

@@ -1,4 +1,4 @@
--- LayoutTheorems: fields of given widths, one after the other, cut from bytes and joined to bytes. A table of fields in a protocol is such a list.
+-- Layouts: fields of given widths, one after the other, cut from bytes and joined to bytes. A table of fields in a protocol is such a list.
 use Prim.Native.Nat.{ℕ, _+_, _^_, _<_}
 use mathlib.Core.Path.{_≡_}
 use mathlib.Core.List.{List, [], _∷_, _++_, map}

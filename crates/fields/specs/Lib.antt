@@ -6,7 +6,9 @@ pub mod Numbers
 pub mod Text
 pub mod Received
 pub mod Layout
+pub mod Tables
 pub mod Checks
 pub mod Formats
 pub mod Answer
+pub mod Writers
 pub mod Examples

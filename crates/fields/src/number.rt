@@ -2,7 +2,12 @@
 ghost use mathlib.Core.Path.{_≡_};
 ghost use Prim.Native.Nat.{_≤_, _<_, _^_};
 ghost use lib.Seq.{sets};
+ghost use mathlib.Core.List.{[], _∷_};
 ghost use Rattle.fields.specs.Numbers.{beAt, beBytes};
+ghost use Rattle.fields.specs.Layout.{numbersAt};
+
+// The largest number of two bytes.
+pub const SIZE_LIMIT: usize = 65535;
 
 // The cast as a call: whoever reads a byte through it need not show that the byte fits.
 fn wide(x: u8) -> u64
@@ -50,6 +55,22 @@ pub fn be64(s: &[u8], at: usize) -> u64
     ensures { λ r. ⌜ r ≡ beAt 8 at (now (s .entry)) ⌝ }
 {
     be(s, at, 8)
+}
+
+// The three numbers of two bytes from a place on. Places are counted in what is left there, so that none overflows.
+pub fn halves3(s: &[u8], at: usize) -> [u16; 3]
+    ensures { λ r. ⌜ r ≡ numbersAt at (2 ∷ 2 ∷ 2 ∷ []) (now (s .entry)) ⌝ }
+{
+    let t = crate::slice::rest(s, at);
+    [be16(t, 0), be16(t, 2), be16(t, 4)]
+}
+
+// The three numbers of four bytes from a place on.
+pub fn words3(s: &[u8], at: usize) -> [u32; 3]
+    ensures { λ r. ⌜ r ≡ numbersAt at (4 ∷ 4 ∷ 4 ∷ []) (now (s .entry)) ⌝ }
+{
+    let t = crate::slice::rest(s, at);
+    [be32(t, 0), be32(t, 4), be32(t, 8)]
 }
 
 // The eight digits of v to the base 256.

@@ -5,18 +5,21 @@ use Rattle.fields.specs.Lists.{allOf}
 use Rattle.fields.specs.Numbers.{beVal, beBytes}
 use Rattle.fields.specs.Text.{isText, textOf, pastText, allZero, textOk, textClean, fieldOk, textBytes}
 use Rattle.fields.specs.Received.{fieldBytes}
-use Rattle.fields.specs.Answer.{writtenOf, roomFault, outAfter}
+use Rattle.fields.specs.Answer.{roomFault}
+use Rattle.fields.specs.Writers.{writtenBy, outBy}
 use Rattle.header.specs.Header.{encodeHeader}
-use Rattle.header.specs.Check.{headerOf, shortFault, textsFault, limitFault, headerFault, headerRead, namesFault, writeFault, headerWritten, headerOut}
+use Rattle.header.specs.HeaderReader.{headerOf, shortFault, textsFault, limitFault, headerFault, headerRead}
+use Rattle.header.specs.HeaderWriter.{namesFault, givenFault}
 use Rattle.header.specs.Examples.{Examples}
 
 pub examples : Examples
-unfolding sized allOf beVal beBytes isText textOf pastText allZero textOk textClean fieldOk textBytes fieldBytes writtenOf roomFault outAfter encodeHeader headerOf shortFault textsFault limitFault headerFault headerRead namesFault writeFault headerWritten headerOut
+unfolding sized allOf beVal beBytes isText textOf pastText allZero textOk textClean fieldOk textBytes fieldBytes roomFault writtenBy outBy encodeHeader headerOf shortFault textsFault limitFault headerFault headerRead namesFault givenFault
 examples =
     record {
       layout = refl;
       layout-read = refl;
       texts-read = refl;
+      texts-named = refl;
       wrote = refl;
       written = refl;
       uncleared-layout = refl;
@@ -24,6 +27,8 @@ examples =
       rests-read = refl;
       uncleared-cleaned = refl;
       short = refl;
+      texts-by-length = refl;
+      no-texts = refl;
       accepted = refl;
       two = refl;
       three = refl;

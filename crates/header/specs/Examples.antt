@@ -9,7 +9,8 @@ use Rattle.fields.specs.declared.Written.{Written}
 use Rattle.fields.specs.declared.Written.the-variants.{Wrote, Refused}
 use Rattle.header.specs.declared.HeaderRead.{HeaderRead}
 use Rattle.header.specs.Header.{Header, encodeHeader, cleanedHeader}
-use Rattle.header.specs.Check.{headerOf, limitFault, headerRead, headerWritten, headerOut}
+use Rattle.header.specs.HeaderReader.{headerOf, limitFault, headerRead, typeIn, nameIn}
+use Rattle.header.specs.HeaderWriter.{headerWritten, headerOut}
 use Rattle.header.specs.TimeStamp.{secondsOf, nanosecondsOf}
 
 -- every field with a value of its own: V 2, TYPE "TIME", DEVICE_NAME "Arm"
@@ -129,6 +130,8 @@ pub record Examples : Type 0 where
   pub layout : encodeHeader distinct ≡ distinctBytes
   pub layout-read : headerRead (distinctBytes ++ (9 ∷ [])) ≡ distinctRead true
   pub texts-read : headerOf (distinctBytes ++ (9 ∷ [])) ≡ distinct
+  pub texts-named : typeIn distinctBytes (headerRead distinctBytes) ∷ nameIn distinctBytes (headerRead distinctBytes) ∷ []
+      ≡ distinct .typeText ∷ distinct .deviceName ∷ []
   pub wrote : headerWritten distinct 60 ≡ Wrote 58
   pub written : headerOut distinct (replicate 60 5) ≡ distinctBytes ++ (5 ∷ 5 ∷ [])
   -- uncleared fields: the same answer but for the mark; the rests are what stands from the first 0 on, and cleaned it is the header above
@@ -139,6 +142,8 @@ pub record Examples : Type 0 where
   -- 57 bytes are 1, and nothing is handed out
   pub short : headerRead (take 57 distinctBytes)
       ≡ record { number = 1; version = 0; «type_len» = 0; «name_len» = 0; «time_stamp» = 0; «body_size» = 0; crc = 0; clean = false }
+  pub texts-by-length : typeIn (full 58) (distinctRead true) ∷ nameIn (full 58) (distinctRead true) ∷ [] ≡ full 4 ∷ full 3 ∷ []
+  pub no-texts : typeIn distinctBytes (headerRead (take 57 distinctBytes)) ∷ nameIn distinctBytes (headerRead (take 57 distinctBytes)) ∷ [] ≡ [] ∷ [] ∷ []
   -- full fields and the largest body; a byte 128 before the first 0; a body too large; 2 before 3, and 1 before both
   pub accepted : numbersOf (bytesWith (full 12) (full 20) atLimit ∷ bytesWith (replicate 12 0) (replicate 20 0) (replicate 8 0) ∷ [])
       ≡ 0 ∷ 0 ∷ []

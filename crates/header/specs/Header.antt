@@ -9,6 +9,16 @@ use Rattle.fields.specs.Text.{Text}
 use Rattle.fields.specs.Received.{fieldBytes, zeroed, Fills}
 use Rattle.fields.specs.Layout.{join}
 
+-- how many bytes it has, and how many its two text fields have
+abbrev pub headerSize : ℕ
+headerSize = 58
+
+abbrev pub typeSize : ℕ
+typeSize = 12
+
+abbrev pub nameSize : ℕ
+nameSize = 20
+
 pub record Header : Type 0 where
   pub version : ℕ
   pub typeText : List ℕ
@@ -21,13 +31,13 @@ pub record Header : Type 0 where
 
 -- the widths of its fields, in the order of rule 3.1
 abbrev pub headerWidths : List ℕ
-headerWidths = 2 ∷ 12 ∷ 20 ∷ 8 ∷ 8 ∷ 8 ∷ []
+headerWidths = 2 ∷ typeSize ∷ nameSize ∷ 8 ∷ 8 ∷ 8 ∷ []
 
 abbrev pub headerFields : Header → List (List ℕ)
 headerFields h =
     beBytes 2 (h .version)
-    ∷ fieldBytes 12 (h .typeText) (h .typeRest)
-    ∷ fieldBytes 20 (h .deviceName) (h .nameRest)
+    ∷ fieldBytes typeSize (h .typeText) (h .typeRest)
+    ∷ fieldBytes nameSize (h .deviceName) (h .nameRest)
     ∷ beBytes 8 (h .timeStamp)
     ∷ beBytes 8 (h .bodySize)
     ∷ beBytes 8 (h .crc)
@@ -39,15 +49,15 @@ encodeHeader h = join (headerFields h)
 -- what a writer takes: TYPE and DEVICE_NAME are texts that fit their fields
 pub record WellTexts (t n : List ℕ) : Type 0 where
   pub type-text : Text t
-  pub type-fits : length t ≤ 12
+  pub type-fits : length t ≤ typeSize
   pub name-text : Text n
-  pub name-fits : length n ≤ 20
+  pub name-fits : length n ≤ nameSize
 
 -- every field fits its width
 pub record HeaderFits (h : Header) : Type 0 where
   pub version-fits : h .version < 256 ^ 2
-  pub type-fills : Fills 12 (h .typeText) (h .typeRest)
-  pub name-fills : Fills 20 (h .deviceName) (h .nameRest)
+  pub type-fills : Fills typeSize (h .typeText) (h .typeRest)
+  pub name-fills : Fills nameSize (h .deviceName) (h .nameRest)
   pub stamp-fits : h .timeStamp < 256 ^ 8
   pub size-fits : h .bodySize < 256 ^ 8
   pub crc-fits : h .crc < 256 ^ 8

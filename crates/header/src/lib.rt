@@ -16,12 +16,22 @@ use fields::text::put_text12;
 use fields::text::put_text20;
 use fields::text::read_field;
 use fields::text::text_len;
-use fields::text::text_of;
 ghost use mathlib.Core.Path.{_≡_};
-ghost use lib.ListN.{length};
+ghost use Rattle.fields.specs.Checks.{orElse};
+ghost use Rattle.fields.specs.Answer.{roomFault};
 ghost use Rattle.fields.specs.Layout.{stores};
 ghost use Rattle.header.specs.Header.{headerWidths};
-ghost use Rattle.header.specs.Check.{headerOf, textsChecked, limitFault, headerChecked, handedWith, refused, headerRead, namesFault, given, givenFields, writeFault, headerWritten, headerOut};
+ghost use Rattle.header.specs.HeaderReader.{headerOf, textsChecked, limitFault, headerChecked, handedWith, refused, headerRead, typeIn, nameIn};
+ghost use Rattle.header.specs.HeaderWriter.{namesFault, given, givenFields, HeaderPromise};
+
+// The size of a header (rule 3.1), that of its two text fields, and the largest BODY_SIZE (rule 3.3).
+pub const HEADER_SIZE: usize = 58;
+
+pub const TYPE_SIZE: usize = 12;
+
+pub const NAME_SIZE: usize = 20;
+
+pub const BODY_LIMIT: usize = 16777216;
 
 // What the reader of a header hands out: the number (rule 5.1), 0 where accepted; the fields, with the lengths of the two texts; whether
 // both texts are clean (rule 13.2). Where refused, all but the number is 0, and `clean` is false.
@@ -44,18 +54,18 @@ pub struct HeaderFields {
     pub crc: u64,
 }
 
-// The text of TYPE.
-pub fn type_text(stream: &[u8]) -> &[u8]
-    ensures { λ r. ⌜ now r ≡ headerOf (now (stream .entry)) .typeText ⌝ }
+// The text of TYPE that this answer to the stream names: none where it is a refusal.
+pub fn type_text(stream: &[u8], header: HeaderRead) -> &[u8]
+    ensures { λ r. ⌜ now r ≡ typeIn (now (stream .entry)) header ⌝ }
 {
-    text_of(part(stream, 2, 12))
+    part(stream, 2, header.type_len)
 }
 
-// The text of DEVICE_NAME.
-pub fn device_name(stream: &[u8]) -> &[u8]
-    ensures { λ r. ⌜ now r ≡ headerOf (now (stream .entry)) .deviceName ⌝ }
+// The same of DEVICE_NAME.
+pub fn device_name(stream: &[u8], header: HeaderRead) -> &[u8]
+    ensures { λ r. ⌜ now r ≡ nameIn (now (stream .entry)) header ⌝ }
 {
-    text_of(part(stream, 14, 20))
+    part(stream, 14, header.name_len)
 }
 
 // BODY_SIZE.
@@ -69,11 +79,11 @@ fn size_at(stream: &[u8]) -> usize
 fn check_texts(stream: &[u8]) -> Checked
     ensures { λ r. ⌜ r ≡ textsChecked (now (stream .entry)) ⌝ }
 {
-    let type_field = read_field(part(stream, 2, 12));
+    let type_field = read_field(part(stream, 2, TYPE_SIZE));
     if !type_field.ok {
         return marked(2, false);
     }
-    let name_field = read_field(part(stream, 14, 20));
+    let name_field = read_field(part(stream, 14, NAME_SIZE));
     if !name_field.ok {
         return marked(2, false);
     }
@@ -84,7 +94,7 @@ fn check_texts(stream: &[u8]) -> Checked
 fn limit_fault(size: usize) -> u8
     ensures { λ r. ⌜ r ≡ limitFault size ⌝ }
 {
-    if size <= 16777216 {
+    if size <= BODY_LIMIT {
         return 0;
     }
     3
@@ -94,7 +104,7 @@ fn limit_fault(size: usize) -> u8
 fn check_header(stream: &[u8]) -> Checked
     ensures { λ r. ⌜ r ≡ headerChecked (now (stream .entry)) ⌝ }
 {
-    if stream.len() < 58 {
+    if stream.len() < HEADER_SIZE {
         return marked(1, false);
     }
     let texts = check_texts(stream);
@@ -127,8 +137,8 @@ fn handed(stream: &[u8], clean: bool) -> HeaderRead
     HeaderRead {
         number: 0,
         version: be16(stream, 0),
-        type_len: text_len(part(stream, 2, 12)),
-        name_len: text_len(part(stream, 14, 20)),
+        type_len: text_len(part(stream, 2, TYPE_SIZE)),
+        name_len: text_len(part(stream, 14, NAME_SIZE)),
         time_stamp: be64(stream, 34),
         body_size: size_at(stream),
         crc: be64(stream, 50),
@@ -151,10 +161,10 @@ pub fn read_header(stream: &[u8]) -> HeaderRead
 pub fn names_fault(type_text: &[u8], device_name: &[u8]) -> u8
     ensures { λ r. ⌜ r ≡ namesFault (now («type_text» .entry)) (now («device_name» .entry)) ⌝ }
 {
-    if 12 < type_text.len() {
+    if TYPE_SIZE < type_text.len() {
         return 2;
     }
-    if 20 < device_name.len() {
+    if NAME_SIZE < device_name.len() {
         return 2;
     }
     if !is_text(type_text) {
@@ -168,7 +178,7 @@ pub fn names_fault(type_text: &[u8], device_name: &[u8]) -> u8
 
 // 2, 3, then 20 for a buffer of this length.
 fn write_fault(header: HeaderFields, type_text: &[u8], device_name: &[u8], room: usize) -> u8
-    ensures { λ r. ⌜ r ≡ writeFault (given header (now («type_text» .entry)) (now («device_name» .entry))) room ⌝ }
+    ensures { λ r. ⌜ r ≡ orElse (namesFault (now («type_text» .entry)) (now («device_name» .entry))) (orElse (limitFault (header .«body_size»)) (roomFault 58 room)) ⌝ }
 {
     let names = names_fault(type_text, device_name);
     if names != 0 {
@@ -178,7 +188,7 @@ fn write_fault(header: HeaderFields, type_text: &[u8], device_name: &[u8], room:
     if limit != 0 {
         return limit;
     }
-    room_fault(58, room)
+    room_fault(HEADER_SIZE, room)
 }
 
 // Writes the 58 bytes of a header at the front.
@@ -204,13 +214,12 @@ pub fn write_header(
     device_name: &[u8],
     out: &mut [u8],
 ) -> Written
-    ensures answer { λ r. ⌜ r ≡ headerWritten (given header (now («type_text» .entry)) (now («device_name» .entry))) (length (now (out .entry))) ⌝ }
-    ensures bytes { λ _. ⌜ now (out .exit) ≡ headerOut (given header (now («type_text» .entry)) (now («device_name» .entry))) (now (out .entry)) ⌝ }
+    ensures { λ r. ⌜ HeaderPromise (given header (now («type_text» .entry)) (now («device_name» .entry))) (now (out .entry)) r (now (out .exit)) ⌝ }
 {
     let fault = write_fault(header, type_text, device_name, out.len());
     if fault != 0 {
         return Written::Refused(fault);
     }
     put_header(header, type_text, device_name, out);
-    Written::Wrote(58)
+    Written::Wrote(HEADER_SIZE)
 }

@@ -12,7 +12,7 @@ use Rattle.message.specs.Message.{Message}
 use Rattle.history.specs.Calls.{Call, add, linkUp, linkDown, message, look, Entry, Link, linking, receiving, noteOf, Colour, green, grey, Answer, refused, accepted, added, empty, shown}
 use Rattle.history.specs.Places.{passes, firstFree}
 use Rattle.history.specs.Reading.{oneMessage, Reader}
-use Rattle.history.specs.Summary.{Summary, tileAt, carries, readOn, numberOn, summaryOf}
+use Rattle.history.specs.Summary.{Summary, tileAt, carries, readOn, faultOn, summaryOf}
 
 abbrev pub callAt : List Call → ℕ → Call
 callAt cs k = getD cs k (look 0 0)
@@ -44,7 +44,7 @@ module _ (R : Reader) where
     pub bytes : List ℕ
     pub is : noteOf c ≡ receiving clock bytes
     pub read : readOn R (b .link .up) bytes ≡ oneMessage m
-    pub counts : numberOn R b c ≡ 0
+    pub counts : faultOn R b c ≡ 0
     pub carried : passes (carries m) (tileAt b i) ≡ true
 
   -- at place k stands a message that counts for tile i
@@ -56,7 +56,7 @@ module _ (R : Reader) where
   pub record LinkCall (b : Summary) (c : Call) : Type 0 where
     pub link : Link
     pub is : noteOf c ≡ linking link
-    pub accepted : numberOn R b c ≡ 0
+    pub accepted : faultOn R b c ≡ 0
 
   -- no call after place k is so, where P says it of the book before a call and the call
   abbrev pub NoneAfter : (Summary → Call → Type 0) → List Call → ℕ → Type 0
@@ -113,5 +113,5 @@ module _ (R : Reader) where
 
   -- the answer a of the call c after the calls cs is the book's, and of a look the history's
   pub record Answers (cs : List Call) (c : Call) (a : Answer) : Type 0 where
-    pub refusal : (numberOn R (summaryOf R cs) c ≡ 0 → ⊥) → a ≡ refused (numberOn R (summaryOf R cs) c)
-    pub acceptance : numberOn R (summaryOf R cs) c ≡ 0 → Accepted cs c a
+    pub refusal : (faultOn R (summaryOf R cs) c ≡ 0 → ⊥) → a ≡ refused (faultOn R (summaryOf R cs) c)
+    pub acceptance : faultOn R (summaryOf R cs) c ≡ 0 → Accepted cs c a

@@ -8,4 +8,4 @@ pub mod Summary
 pub mod History
 pub mod Words
 pub mod Examples
-pub mod BookTheorems
+pub mod BookExamples

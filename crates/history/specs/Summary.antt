@@ -78,10 +78,10 @@ abbrev pub countsOn : List (Option Entry) → Message → Bool
 countsOn ts m = anyOf (passes (carries m)) ts
 
 -- the reader's number, then 12, then 13 (rule 7.5)
-abbrev pub readingNumber : List (Option Entry) → Reading → ℕ
-readingNumber ts (noMessage n) = n
-readingNumber ts leftOver = 12
-readingNumber ts (oneMessage m) = cond (countsOn ts m) 0 13
+abbrev pub readingFault : List (Option Entry) → Reading → ℕ
+readingFault ts (noMessage n) = n
+readingFault ts leftOver = 12
+readingFault ts (oneMessage m) = cond (countsOn ts m) 0 13
 
 -- ---- the book after a call that is not refused
 
@@ -99,21 +99,21 @@ module _ (R : Reader) where
 
   -- the number that a call's checks on the book give (rules 7.3 to 7.7), where it is given whether all places for tiles are taken. 0 means
   -- that the call is accepted; a message then counts
-  abbrev pub numberBy : Bool → Summary → Call → ℕ
-  numberBy full b (add t n h) = orElse (allowedFault t n h) (orElse (cond (anyOf (passes (isOf t n)) (b .tiles)) 17 0) (cond full 18 0))
-  numberBy full b (linkUp l t) = clockFault (b .link .clock) t
-  numberBy full b (linkDown t) = clockFault (b .link .clock) t
-  numberBy full b (message t s) =
-      orElse (clockFault (b .link .clock) t) (readingNumber (b .tiles) (readOn (b .link .up) s))
-  numberBy full b (look i t) = orElse (tileFault (tileAt b i)) (clockFault (b .link .clock) t)
+  abbrev pub faultBy : Bool → Summary → Call → ℕ
+  faultBy full b (add t n h) = orElse (allowedFault t n h) (orElse (cond (anyOf (passes (isOf t n)) (b .tiles)) 17 0) (cond full 18 0))
+  faultBy full b (linkUp l t) = clockFault (b .link .clock) t
+  faultBy full b (linkDown t) = clockFault (b .link .clock) t
+  faultBy full b (message t s) =
+      orElse (clockFault (b .link .clock) t) (readingFault (b .tiles) (readOn (b .link .up) s))
+  faultBy full b (look i t) = orElse (tileFault (tileAt b i)) (clockFault (b .link .clock) t)
 
   -- they are taken where this book has as many tiles as there may be
-  abbrev pub numberOn : Summary → Call → ℕ
-  numberOn b c = numberBy (isFull b) b c
+  abbrev pub faultOn : Summary → Call → ℕ
+  faultOn b c = faultBy (isFull b) b c
 
   -- a refused call changes nothing
   abbrev pub next : Summary → Call → Summary
-  next b c = cond (eqb (numberOn b c) 0) (noted b (noteOf c)) b
+  next b c = cond (eqb (faultOn b c) 0) (noted b (noteOf c)) b
 
   unfoldable pub summaryOf : List Call → Summary
   summaryOf cs = foldl next freshSummary cs

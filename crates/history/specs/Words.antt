@@ -11,7 +11,7 @@ use Rattle.message.specs.Message.{Message}
 use Rattle.history.specs.Calls.{Call, linkUp, Entry, adding, noteOf, Answer}
 use Rattle.history.specs.Places.{firstFree, countOf}
 use Rattle.history.specs.Reading.{Reader}
-use Rattle.history.specs.Summary.{tileAt, numberOn, summaryOf}
+use Rattle.history.specs.Summary.{tileAt, faultOn, summaryOf}
 use Rattle.history.specs.History.{callAt, summaryBefore, Counted, NoLinkAfter, Answers}
 
 module _ (R : Reader) where
@@ -19,7 +19,7 @@ module _ (R : Reader) where
   pub record AddedAt (cs : List Call) (i j : ℕ) (e : Entry) : Type 0 where
     pub within : j < length cs
     pub is : noteOf (callAt cs j) ≡ adding e
-    pub accepted : numberOn R (summaryBefore R cs j) (callAt cs j) ≡ 0
+    pub accepted : faultOn R (summaryBefore R cs j) (callAt cs j) ≡ 0
     pub number : firstFree (summaryBefore R cs j .tiles) ≡ i
 
   -- this tile was added with the number i, and every message that counts for the number stands after the adding
@@ -34,7 +34,7 @@ module _ (R : Reader) where
     pub clock : ℕ
     pub within : place < length cs
     pub is : callAt cs place ≡ linkUp l clock
-    pub accepted : numberOn R (summaryBefore R cs place) (callAt cs place) ≡ 0
+    pub accepted : faultOn R (summaryBefore R cs place) (callAt cs place) ≡ 0
     pub last : NoLinkAfter R cs place
 
 pub record Words : Type 0 where

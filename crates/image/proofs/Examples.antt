@@ -1,12 +1,14 @@
 -- The examples, by computation.
 use mathlib.Core.Path.{refl}
 use Rattle.fields.specs.Numbers.{beVal, beBytes}
-use Rattle.fields.specs.Answer.{writtenOf, roomFault, outAfter}
-use Rattle.image.specs.Image.{encodeImage, scalarSize, kindOk, within, directionOk, directionsOk, pixelBytes, headerOk, ruleFault, headerOf, imageFault, imageOf, pixelsOf, writeFault, imageWritten, imageAfter}
+use Rattle.fields.specs.Answer.{roomFault}
+use Rattle.fields.specs.Writers.{writtenBy, outBy}
+use Rattle.image.specs.Image.{encodeImage}
+use Rattle.image.specs.ImageReader.{scalarSize, kindOk, within, directionOk, directionsOk, pixelBytes, headerOk, ruleFault, headerOf, imageFault, imageOf, pixelsOf}
 use Rattle.image.specs.Examples.{Examples}
 
 pub examples : Examples
-unfolding beVal beBytes writtenOf roomFault outAfter encodeImage scalarSize kindOk within directionOk directionsOk pixelBytes headerOk ruleFault headerOf imageFault imageOf pixelsOf writeFault imageWritten imageAfter
+unfolding beVal beBytes roomFault writtenBy outBy encodeImage scalarSize kindOk within directionOk directionsOk pixelBytes headerOk ruleFault headerOf imageFault imageOf pixelsOf
 examples =
     record {
       layout = refl;

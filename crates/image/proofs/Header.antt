@@ -1,8 +1,7 @@
 -- The 72 bytes of a header, both ways.
-use Prim.Native.Nat.{ℕ, suc, _+_, _≤_}
+use Prim.Native.Nat.{ℕ, _+_, _≤_}
 use mathlib.Core.Path.{_≡_, refl, sym, ap, _∙_}
 use mathlib.Core.List.{List, [], _∷_, _++_, map}
-use native.Mathlib.Omega.{arith}
 use native.Mathlib.Nat.{zero-add}
 use lib.ListN.{length, getD, take, drop, length-append, take-append-drop}
 use lib.Seq.{sets, drop-at}
@@ -10,10 +9,12 @@ use Rattle.fields.specs.Bytes.{Bytes}
 use Rattle.fields.specs.Numbers.{beVal}
 use Rattle.fields.specs.Layout.{join, cut, Widths, stores, numbersAt, numberFields, NumbersFit}
 use Rattle.fields.proofs.Laws.Numbers.{beAt-lt}
+use Rattle.fields.proofs.Laws.Lists.{three-back}
 use Rattle.fields.proofs.Laws.Layout.{length-join, join-cut, cut-join, widths-numbers, numbers-back, numbers-front}
 use Rattle.fields.proofs.Laws.Stores.{sets-append, stores-join}
 use Rattle.image.specs.declared.ImageHeader.{ImageHeader}
-use Rattle.image.specs.Image.{Image, three, headerNumbers, headerWidths, HeaderFits, headerOf, encodeImage, imageOfParts}
+use Rattle.image.specs.Image.{Image, three, headerNumbers, headerWidths, HeaderFits, encodeImage, imageOfParts}
+use Rattle.image.specs.ImageReader.{headerOf}
 
 abbrev pub headerBytes : ImageHeader → List ℕ
 headerBytes h = join (numberFields headerWidths (headerNumbers h))
@@ -64,13 +65,6 @@ header-fits c b =
     record { numbers = numbers-fit 0 headerWidths c b; arrays = (refl, (refl, (refl, (refl, (refl, (refl, (refl, tt))))))) }
 
 -- ---- what was written is read
-
-three-back : (a : List ℕ) → length a ≡ 3 → three a ≡ a
-three-back (x ∷ y ∷ z ∷ []) h = refl
-three-back [] h = absurd (let z : _≡_ {A = ℕ} 0 3 = h in omega arith)
-three-back (x ∷ []) h = absurd (let z : _≡_ {A = ℕ} 1 3 = h in omega arith)
-three-back (x ∷ y ∷ []) h = absurd (let z : _≡_ {A = ℕ} 2 3 = h in omega arith)
-three-back (x ∷ y ∷ z ∷ w ∷ l) h = absurd (let k : _≡_ {A = ℕ} (suc (suc (suc (suc (length l))))) 3 = h in omega arith)
 
 -- the entries of one array among the numbers
 array-from : {l m : List ℕ} (i : ℕ) (a : List ℕ) → l ≡ m → take 3 (drop i m) ≡ three a → length a ≡ 3 → take 3 (drop i l) ≡ a

@@ -11,7 +11,8 @@ use lib.ListN.{getD}
 use borrow.Author.Tests.{leb-true, le-leb, eqb-true, eq-eqb}
 use Rattle.fields.proofs.Laws.Checks.{and-split, and-join, or-split}
 use Rattle.image.specs.declared.ImageHeader.{ImageHeader}
-use Rattle.image.specs.Image.{along, ScalarType, int8, uint8, int16, uint16, int32, uint32, float32, float64, Direction, ImageRule, scalarSizes, scalarSize, oneOrTwo, kindOk, within, directionOk, directionsOk, pixelBytes, headerOk, ruleFault}
+use Rattle.image.specs.Image.{along, ScalarType, int8, uint8, int16, uint16, int32, uint32, float32, float64, Direction, ImageRule}
+use Rattle.image.specs.ImageReader.{scalarSizes, scalarSize, oneOrTwo, kindOk, within, directionOk, directionsOk, pixelBytes, headerOk, ruleFault}
 
 -- ---- scalar types
 

@@ -6,7 +6,9 @@ use lib.ListN.{length, take, drop, replicate}
 use lib.Seq.{sets}
 use Rattle.fields.specs.declared.Written.the-variants.{Wrote, Refused}
 use Rattle.image.specs.declared.ImageHeader.{ImageHeader}
-use Rattle.image.specs.Image.{encodeImage, imageFault, imageOf, pixelsOf, imageOfParts, imageWritten, imageAfter}
+use Rattle.image.specs.Image.{encodeImage, imageOfParts}
+use Rattle.image.specs.ImageReader.{imageFault, imageOf, pixelsOf}
+use Rattle.image.specs.ImageWriter.{imageWritten, imageOut}
 
 -- T 3, and the given S, RI, DI and DRI; DRJ is 2 and DRK 1
 abbrev pub header : ℕ → ℕ → ℕ → ℕ → ImageHeader
@@ -146,10 +148,10 @@ pub record Examples : Type 0 where
       }
   pub no-pixels : pixelsOf (take 77 bordered) ≡ []
   -- the writer: into 96 bytes, into 95, and with RI 2
-  pub wrote : imageWritten (header 5 3 1 2) (replicate 24 7) (replicate 96 0) ≡ Wrote 96
-  pub no-room : imageWritten (header 5 3 1 2) (replicate 24 7) (replicate 95 0) ≡ Refused 20
-  pub refused : imageWritten (header 5 2 1 2) (replicate 24 7) (replicate 95 0) ≡ Refused 9
+  pub wrote : imageWritten (header 5 3 1 2) (replicate 24 7) 96 ≡ Wrote 96
+  pub no-room : imageWritten (header 5 3 1 2) (replicate 24 7) 95 ≡ Refused 20
+  pub refused : imageWritten (header 5 2 1 2) (replicate 24 7) 95 ≡ Refused 9
   -- what it leaves in 98 bytes: the content, and the two bytes beyond; all as it was where it refuses
-  pub written : take 96 (imageAfter (header 5 3 1 2) (replicate 24 7) (replicate 98 5)) ≡ content (header 5 3 1 2) 24
-  pub kept : drop 96 (imageAfter (header 5 3 1 2) (replicate 24 7) (replicate 98 5)) ≡ 5 ∷ 5 ∷ []
-  pub untouched : imageAfter (header 5 2 1 2) (replicate 24 7) (replicate 98 5) ≡ replicate 98 5
+  pub written : take 96 (imageOut (header 5 3 1 2) (replicate 24 7) (replicate 98 5)) ≡ content (header 5 3 1 2) 24
+  pub kept : drop 96 (imageOut (header 5 3 1 2) (replicate 24 7) (replicate 98 5)) ≡ 5 ∷ 5 ∷ []
+  pub untouched : imageOut (header 5 2 1 2) (replicate 24 7) (replicate 98 5) ≡ replicate 98 5

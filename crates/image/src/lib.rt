@@ -3,20 +3,28 @@
 use fields::Written;
 use fields::number::be8;
 use fields::number::be16;
-use fields::number::be32;
+use fields::number::halves3;
 use fields::number::put8;
 use fields::number::put16;
 use fields::number::put32;
+use fields::number::words3;
 use fields::room_fault;
 use fields::slice::first;
 use fields::slice::rest;
 use fields::store::put;
 ghost use mathlib.Core.Path.{_≡_};
-ghost use Prim.Native.Nat.{_*_, _^_, _≤_, _<_};
+ghost use Prim.Native.Nat.{_+_, _*_, _^_, _≤_, _<_};
 ghost use mathlib.Core.List.{[], _∷_};
-ghost use lib.ListN.{take, drop, replicate};
-ghost use Rattle.fields.specs.Layout.{numbersAt, numberFields, stores};
-ghost use Rattle.image.specs.Image.{three, headerNumbers, headerWidths, scalarSize, oneOrTwo, kindOk, within, directionOk, directionsOk, pixelBytes, ruleFault, headerOf, imageFault, noHeader, imageOf, pixelsOf, writeFault, imageWritten, imageAfter};
+ghost use lib.ListN.{length, take, drop, replicate};
+ghost use Rattle.fields.specs.Layout.{numberFields, stores};
+ghost use Rattle.fields.specs.Checks.{orElse};
+ghost use Rattle.fields.specs.Answer.{roomFault};
+ghost use Rattle.image.specs.Image.{imageOfParts, three, headerNumbers, headerWidths, encodeImage};
+ghost use Rattle.image.specs.ImageReader.{scalarSize, oneOrTwo, kindOk, within, directionOk, directionsOk, pixelBytes, ruleFault, headerOf, imageFault, noHeader, imageOf, pixelsOf};
+ghost use Rattle.image.specs.ImageWriter.{ImagePromise};
+
+// The bytes before the pixels (rule 4.5).
+pub const IMAGE_HEADER_SIZE: usize = 72;
 
 // The 72 bytes before the pixels (rule 4.5), each field with the protocol's name for it.
 pub struct ImageHeader {
@@ -158,31 +166,17 @@ fn rule_fault(header: ImageHeader, n: usize) -> u8
     0
 }
 
-fn halves_at(s: &[u8], at: usize) -> [u16; 3]
-    requires { ⌜ at < 72 ⌝ }
-    ensures { λ r. ⌜ r ≡ numbersAt at (2 ∷ 2 ∷ 2 ∷ []) (now (s .entry)) ⌝ }
-{
-    [be16(s, at), be16(s, at + 2), be16(s, at + 2 + 2)]
-}
-
-fn words_at(s: &[u8], at: usize) -> [u32; 3]
-    requires { ⌜ at < 72 ⌝ }
-    ensures { λ r. ⌜ r ≡ numbersAt at (4 ∷ 4 ∷ 4 ∷ []) (now (s .entry)) ⌝ }
-{
-    [be32(s, at), be32(s, at + 4), be32(s, at + 4 + 4)]
-}
-
 // The header that stands in the first 72 bytes.
 fn header_of(content: &[u8]) -> ImageHeader
     ensures { λ r. ⌜ r ≡ headerOf (now (content .entry)) ⌝ }
 {
-    let size = halves_at(content, 6);
-    let axis_i = words_at(content, 12);
-    let axis_j = words_at(content, 24);
-    let axis_k = words_at(content, 36);
-    let centre = words_at(content, 48);
-    let offset = halves_at(content, 60);
-    let sub_size = halves_at(content, 66);
+    let size = halves3(content, 6);
+    let axis_i = words3(content, 12);
+    let axis_j = words3(content, 24);
+    let axis_k = words3(content, 36);
+    let centre = words3(content, 48);
+    let offset = halves3(content, 60);
+    let sub_size = halves3(content, 66);
     ImageHeader {
         version: be16(content, 0),
         components: be8(content, 2),
@@ -224,10 +218,10 @@ fn no_header() -> ImageHeader
 pub fn image_fault(content: &[u8]) -> u8
     ensures { λ r. ⌜ r ≡ imageFault (now (content .entry)) ⌝ }
 {
-    if content.len() < 72 {
+    if content.len() < IMAGE_HEADER_SIZE {
         return 9;
     }
-    rule_fault(header_of(content), content.len() - 72)
+    rule_fault(header_of(content), content.len() - IMAGE_HEADER_SIZE)
 }
 
 // The number and the header.
@@ -250,7 +244,7 @@ pub fn pixels(content: &[u8]) -> &[u8]
     if image_fault(content) != 0 {
         return first(content, 0);
     }
-    rest(content, 72)
+    rest(content, IMAGE_HEADER_SIZE)
 }
 
 fn put_halves(a: [u16; 3], at: usize, out: &mut [u8])
@@ -320,26 +314,25 @@ fn put_header(header: ImageHeader, out: &mut [u8])
 
 // 9, then 20. The length of the content is formed only where the rule bounds it.
 fn write_fault(header: ImageHeader, n: usize, room: usize) -> u8
-    ensures value { λ r. ⌜ r ≡ writeFault header n room ⌝ }
+    ensures value { λ r. ⌜ r ≡ orElse (ruleFault header n) (roomFault (72 + n) room) ⌝ }
     ensures bound { λ r. ⌜ (r ≡ 0 → n < 2 ^ 59) ⌝ }
 {
     let fault = rule_fault(header, n);
     if fault != 0 {
         return fault;
     }
-    room_fault(72 + n, room)
+    room_fault(IMAGE_HEADER_SIZE + n, room)
 }
 
 // Writes a content of this header and these pixels at the front of the buffer, or nothing where it refuses.
 pub fn write_image(header: ImageHeader, pixels: &[u8], out: &mut [u8]) -> Written
-    ensures answer { λ r. ⌜ r ≡ imageWritten header (now (pixels .entry)) (now (out .entry)) ⌝ }
-    ensures buffer { λ _. ⌜ now (out .exit) ≡ imageAfter header (now (pixels .entry)) (now (out .entry)) ⌝ }
+    ensures { λ r. ⌜ ImagePromise header (now (pixels .entry)) (now (out .entry)) r (now (out .exit)) ⌝ }
 {
     let fault = write_fault(header, pixels.len(), out.len());
     if fault != 0 {
         return Written::Refused(fault);
     }
     put_header(header, out);
-    put(pixels, 72, out);
-    Written::Wrote(72 + pixels.len())
+    put(pixels, IMAGE_HEADER_SIZE, out);
+    Written::Wrote(IMAGE_HEADER_SIZE + pixels.len())
 }

@@ -1,8 +1,8 @@
 -- Messages from a sender that does not clear its text fields, by computation.
-use Prim.Native.Nat.{ℕ, _^_}
-use mathlib.Core.Path.{_≡_, refl}
+use Prim.Native.Nat.{_^_}
+use mathlib.Core.Path.{refl}
 use mathlib.Core.Logic.{inl, inr}
-use mathlib.Core.List.{List, [], _∷_}
+use mathlib.Core.List.{[], _∷_}
 use native.Mathlib.Omega.{arith}
 use lib.ListN.{replicate}
 use Rattle.fields.specs.Bytes.{same, sized}
@@ -10,14 +10,16 @@ use Rattle.fields.specs.Lists.{allOf, flat}
 use Rattle.fields.specs.Numbers.{beVal, beBytes}
 use Rattle.fields.specs.Text.{isText, textOf, pastText, allZero, textOk, textClean, fieldOk, textBytes}
 use Rattle.fields.specs.Received.{fieldBytes, Fills}
-use Rattle.fields.specs.Answer.{writtenOf, roomFault, outAfter}
+use Rattle.fields.specs.Answer.{roomFault}
+use Rattle.fields.specs.Writers.{writtenBy, outBy}
 use Rattle.fields.proofs.Laws.Text.{is-text}
 use Rattle.fields.proofs.Laws.Received.{zero-fills}
 use Rattle.crc64.specs.Crc.{bitStep, run, bitAt, bitsOf, bits, crcOf}
 use Rattle.header.specs.Header.{encodeHeader}
-use Rattle.header.specs.Check.{headerOf, shortFault, textsFault, limitFault, headerFault, namesFault}
+use Rattle.header.specs.HeaderReader.{headerOf, shortFault, textsFault, limitFault, headerFault}
+use Rattle.header.specs.HeaderWriter.{namesFault}
 use Rattle.metadata.specs.Metadata.{encodeMetadata, WellMetadata}
-use Rattle.metadata.specs.MetadataCheck.{entryOk, entriesOk, sectionOk, metadataFault, indexIn}
+use Rattle.metadata.specs.MetadataCheck.{entryOk, entriesOk, sectionOk, metadataFault, indexSizeIn}
 use Rattle.pose.specs.Words.{wordBytes}
 use Rattle.pose.specs.Transform.{WellTransform, transformFault}
 use Rattle.bind_layout.specs.Children.{padded, childHeader, childName, childData, nameTable, encodeChildren}
@@ -31,8 +33,8 @@ use Rattle.message.specs.declared.Layout.{Layout}
 use Rattle.message.specs.declared.Layout.the-variants.{New, Old}
 use Rattle.message.specs.Body.{encodeBody}
 use Rattle.message.specs.Message.{encodeWith, WellFormed}
-use Rattle.message.specs.MessageReader.{extendedOk, bodyFault, sizesFault, placesOf, wholeFault, versionFault, crcFault, sectionsFault, foundFault, bodyChecks, bodyClean, frontFault, numberOf, stepOf, readOf}
-use Rattle.message.specs.MessageWriter.{fits, fitFault, sectionsChecks, writeChecks, writeFault, messageWritten, messageOut}
+use Rattle.message.specs.MessageReader.{extendedOk, extendedFault, sizesFault, placesOf, wholeFault, versionFault, crcFault, sectionsFault, foundFault, bodyFault, bodyClean, frontFault, streamFault, stepOf, readOf}
+use Rattle.message.specs.MessageWriter.{fits, fitFault, givenSectionsFault, givenFault}
 use Rattle.message.specs.Samples.{armText}
 use Rattle.message.specs.ReceivedSamples.{trackerMessage, bundleMessage, ReceivedSamples}
 use Rattle.message.proofs.Laws.Below.{each-below, bytes-below}
@@ -106,7 +108,7 @@ bundle-well l =
     }
 
 pub received-samples : ReceivedSamples
-unfolding encodeWith encodeHeader encodeBody encodeMetadata tree.encode tree.cleaned wordBytes flat beBytes textBytes fieldBytes sized crcOf bits bitsOf bitAt run bitStep readOf numberOf stepOf frontFault bodyChecks bodyClean foundFault sizesFault sectionsFault crcFault versionFault wholeFault placesOf bodyFault extendedOk contentFault contentClean kindOf transformFault metadataFault sectionOk entriesOk entryOk indexIn headerOf shortFault textsFault limitFault headerFault beVal textOf pastText allZero textOk textClean fieldOk isText allOf same padded childHeader childName childData nameTable encodeChildren typesOk typesClean nameOk namesOk tableOk padOk blockOk dataOk layoutOk layoutFault childrenFault bindFault childrenClean bindClean cleanHeaders cleanFront cleanDatas cleanBind cleanBytes messageWritten messageOut writeFault writeChecks sectionsChecks fitFault fits namesFault writtenOf roomFault outAfter
+unfolding encodeWith encodeHeader encodeBody encodeMetadata tree.encode tree.cleaned wordBytes flat beBytes textBytes fieldBytes sized crcOf bits bitsOf bitAt run bitStep readOf streamFault stepOf frontFault bodyFault bodyClean foundFault sizesFault sectionsFault crcFault versionFault wholeFault placesOf extendedFault extendedOk contentFault contentClean kindOf transformFault metadataFault sectionOk entriesOk entryOk indexSizeIn headerOf shortFault textsFault limitFault headerFault beVal textOf pastText allZero textOk textClean fieldOk isText allOf same padded childHeader childName childData nameTable encodeChildren typesOk typesClean nameOk namesOk tableOk padOk blockOk dataOk layoutOk layoutFault childrenFault bindFault childrenClean bindClean cleanHeaders cleanFront cleanDatas cleanBind cleanBytes writtenBy outBy givenFault givenSectionsFault fitFault fits namesFault roomFault
 received-samples =
     record {
       tracker = λ l.

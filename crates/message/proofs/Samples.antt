@@ -9,15 +9,17 @@ use Rattle.fields.specs.Lists.{allOf, flat}
 use Rattle.fields.specs.Numbers.{beVal, beBytes}
 use Rattle.fields.specs.Text.{isText, textOf, pastText, allZero, textOk, textClean, fieldOk, textBytes}
 use Rattle.fields.specs.Received.{fieldBytes}
-use Rattle.fields.specs.Answer.{writtenOf, roomFault, outAfter}
+use Rattle.fields.specs.Answer.{roomFault}
+use Rattle.fields.specs.Writers.{writtenBy, outBy}
 use Rattle.crc64.specs.Crc.{bitStep, run, bitAt, bitsOf, bits, crcOf}
 use Rattle.header.specs.Header.{encodeHeader}
-use Rattle.header.specs.Check.{headerOf, shortFault, textsFault, limitFault, headerFault, namesFault}
+use Rattle.header.specs.HeaderReader.{headerOf, shortFault, textsFault, limitFault, headerFault}
+use Rattle.header.specs.HeaderWriter.{namesFault}
 use Rattle.metadata.specs.Metadata.{WellEntry, entryHeader, entryData, encodeMetadata, WellMetadata}
-use Rattle.metadata.specs.MetadataCheck.{entryOk, entriesOk, sectionOk, metadataFault, indexIn}
+use Rattle.metadata.specs.MetadataCheck.{entryOk, entriesOk, sectionOk, metadataFault, indexSizeIn}
 use Rattle.pose.specs.Words.{wordBytes}
 use Rattle.pose.specs.Transform.{transformFault}
-use Rattle.pose.specs.Position.{six, wordsIn, positionFault}
+use Rattle.pose.specs.Position.{six, countFault, positionFault}
 use Rattle.content.specs.Kinds.{transformText, positionText, kindOf}
 use Rattle.content.specs.ContentCheck.{contentFault, contentClean}
 use Rattle.cleaning.specs.CleanBytes.{cleanBytes}
@@ -29,8 +31,8 @@ use Rattle.message.specs.declared.Layout.the-variants.{New, Old}
 use Rattle.message.specs.LayoutNumber.{layoutOf}
 use Rattle.message.specs.Body.{encodeBody, MetadataFits}
 use Rattle.message.specs.Message.{encodeWith, WellFormed}
-use Rattle.message.specs.MessageReader.{extendedOk, bodyFault, sizesFault, placesOf, wholeFault, versionFault, crcFault, sectionsFault, foundFault, bodyChecks, bodyClean, frontFault, numberOf, stepOf, readOf, refused}
-use Rattle.message.specs.MessageWriter.{fits, fitFault, sectionsChecks, writeChecks, writeFault, messageWritten, messageOut}
+use Rattle.message.specs.MessageReader.{extendedOk, extendedFault, sizesFault, placesOf, wholeFault, versionFault, crcFault, sectionsFault, foundFault, bodyFault, bodyClean, frontFault, streamFault, stepOf, readOf, refused}
+use Rattle.message.specs.MessageWriter.{fits, fitFault, givenSectionsFault, givenFault}
 use Rattle.message.proofs.Laws.Below.{each-below, bytes-below}
 use Rattle.fields.proofs.Laws.Text.{is-text}
 use Rattle.fields.proofs.Laws.Received.{zero-fills}
@@ -124,7 +126,7 @@ by-layout P n o New = n
 by-layout P n o Old = o
 
 pub samples : Samples
-unfolding encodeWith encodeHeader encodeBody encodeMetadata entryHeader entryData tree.encode wordBytes flat beBytes textBytes fieldBytes sized crcOf bits bitsOf bitAt run bitStep readOf numberOf stepOf frontFault bodyChecks bodyClean foundFault sizesFault sectionsFault crcFault versionFault wholeFault placesOf bodyFault extendedOk contentFault contentClean kindOf transformFault positionFault wordsIn metadataFault sectionOk entriesOk entryOk indexIn headerOf shortFault textsFault limitFault headerFault beVal textOf pastText allZero textOk textClean fieldOk isText allOf same cleanBytes messageWritten messageOut writeFault writeChecks sectionsChecks fitFault fits namesFault writtenOf roomFault outAfter layoutOf
+unfolding encodeWith encodeHeader encodeBody encodeMetadata entryHeader entryData tree.encode wordBytes flat beBytes textBytes fieldBytes sized crcOf bits bitsOf bitAt run bitStep readOf streamFault stepOf frontFault bodyFault bodyClean foundFault sizesFault sectionsFault crcFault versionFault wholeFault placesOf extendedFault extendedOk contentFault contentClean kindOf transformFault positionFault countFault metadataFault sectionOk entriesOk entryOk indexSizeIn headerOf shortFault textsFault limitFault headerFault beVal textOf pastText allZero textOk textClean fieldOk isText allOf same cleanBytes writtenBy outBy givenFault givenSectionsFault fitFault fits namesFault roomFault layoutOf
 samples =
     record {
       numbers = refl;

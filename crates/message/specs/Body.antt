@@ -13,6 +13,10 @@ use Rattle.message.specs.declared.Layout.{Layout}
 use Rattle.message.specs.declared.Layout.the-variants.{New, Old}
 use Rattle.message.specs.declared.extended.ExtendedNumbers.{ExtendedNumbers}
 
+-- the bytes of an extended header without further bytes, which is the least EXT_HEADER_SIZE (rule 3.6)
+abbrev pub extendedLeast : ℕ
+extendedLeast = 12
+
 -- MSG_ID, the further bytes of the extended header, the content, the metadata
 pub record Sections : Type 0 where
   pub id : ℕ
@@ -29,7 +33,7 @@ extendedNumbers Old k m id = record { second = m; third = id; fourth = 0 }
 -- the fields of the extended header, in the order of rule 3.6, and behind them the content and the metadata
 abbrev pub extendedFields : Layout → ℕ → Sections → List (List ℕ)
 extendedFields l k x =
-    beBytes 2 (12 + length (x .further))
+    beBytes 2 (extendedLeast + length (x .further))
     ∷ beBytes 2 (extendedNumbers l k (length (x .metadata)) (x .id) .second)
     ∷ beBytes 4 (extendedNumbers l k (length (x .metadata)) (x .id) .third)
     ∷ beBytes 4 (extendedNumbers l k (length (x .metadata)) (x .id) .fourth)
@@ -57,7 +61,7 @@ MetadataFits Old k m = m < 256 ^ 2
 pub record Extended (l : Layout) (k : ℕ) (x : Sections) : Type 0 where
   pub id-fits : x .id < 256 ^ 4
   pub further-bytes : Bytes (x .further)
-  pub further-fits : 12 + length (x .further) < 256 ^ 2
+  pub further-fits : extendedLeast + length (x .further) < 256 ^ 2
   pub metadata-fits : MetadataFits l k (length (x .metadata))
 
 -- the sections that a body of this version can have, their metadata's index having k bytes

@@ -5,7 +5,7 @@ use Prim.Native.Nat.{ℕ, _^_, _<_}
 use mathlib.Core.Path.{_≡_}
 use mathlib.Core.List.{List}
 use lib.ListN.{length}
-use Rattle.header.specs.Check.{headerOf}
+use Rattle.header.specs.HeaderReader.{headerOf}
 use Rattle.metadata.specs.Metadata.{indexSize, encodeMetadata}
 use Rattle.message.specs.declared.Layout.{Layout}
 use Rattle.message.specs.Message.{Message, WellFormed, Parts, encode}

@@ -1,4 +1,4 @@
--- BodyTheorems of V 2 and metadata sections, byte by byte, in both layouts (rules 3.6, 5.1 and 5.9). They fix where the numbers of the extended header
+-- Bodies of V 2 and metadata sections, byte by byte, in both layouts (rules 3.6, 5.1 and 5.9). They fix where the numbers of the extended header
 -- stand, which sizes agree with a section, the limits, and that 6 comes before 7 and 7 before 8.
 use Prim.Native.Nat.{ℕ}
 use mathlib.Core.Path.{_≡_}

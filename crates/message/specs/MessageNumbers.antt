@@ -5,6 +5,7 @@ use mathlib.Core.Logic.{_⊎_}
 use mathlib.Core.Bool.{true, false}
 use mathlib.Core.List.{List, _++_}
 use lib.ListN.{length, drop, replicate}
+use Rattle.fields.specs.declared.Written.{Written}
 use Rattle.fields.specs.Bytes.{Bytes}
 use Rattle.fields.specs.Numbers.{beAt}
 use Rattle.fields.specs.Checks.{orElse}
@@ -12,7 +13,7 @@ use Rattle.fields.specs.Answer.{writtenNumber, writtenCount, roomFault}
 use Rattle.crc64.specs.Crc.{crcOf}
 use Rattle.header.specs.Header.{Header, WellTexts, WellHeader, encodeHeader, limit}
 use Rattle.header.specs.HeaderTheorems.{BeginsWith, TextsHeld}
-use Rattle.metadata.specs.MetadataCheck.{indexCount, indexIn}
+use Rattle.metadata.specs.MetadataCheck.{indexCount, indexSizeIn}
 use Rattle.metadata.specs.MetadataTheorems.{IsMetadata}
 use Rattle.content.specs.ContentCheck.{contentFault, deepest}
 use Rattle.message.specs.declared.Answer.{Answer}
@@ -22,7 +23,7 @@ use Rattle.message.specs.Body.{Sections, Plain, WellSections, encodeBody
 use Rattle.message.specs.Message.{Parts}
 use Rattle.message.specs.MessageReader.{refused, readOf, handed}
 use Rattle.message.specs.BodyTheorems.{IsVersion, BreaksExtended, Agrees}
-use Rattle.message.specs.MessageWriter.{bodyGiven, encodeParts, cleanParts, messageWritten, messageOut}
+use Rattle.message.specs.MessageWriter.{bodyGiven, encodeParts, cleanParts, messageWritten, messageOut, MessagePromise}
 
 -- ---- the reader
 
@@ -112,7 +113,7 @@ Unfit l version x =
 
 -- in V 2 of the new layout, the metadata is at least as long as its index; all accepted metadata is (`MetadataTheorems`, index-within)
 abbrev pub HasIndex : Layout → ℕ → List ℕ → Type 0
-HasIndex New version s = version ≡ 2 → indexIn s ≤ length s
+HasIndex New version s = version ≡ 2 → indexSizeIn s ≤ length s
 HasIndex Old version s = Unit {0}
 
 -- what was written is accepted and marked clean, and handed out as what was given, its content cleaned; the bytes beyond are as they were
@@ -136,6 +137,9 @@ pub record WriterNumbers (l : Layout) : Type 0 where
   pub as-reader : (p : Parts) (room : ℕ) → Given l p → WellTexts (p .typeText) (p .deviceName) → (Unfit l (p .version) (p .sections) → ⊥)
       → HasIndex l (p .version) (p .sections .metadata)
       → writtenNumber (messageWritten l p room) ≡ orElse (readOf l (encodeParts l p) .number) (roomFault (length (encodeParts l p)) room)
+  -- what is promised of the writer is this answer and this buffer
+  pub promised : (p : Parts) (out left : List ℕ) (answer : Written) → MessagePromise l p out answer left
+      → (answer ≡ messageWritten l p (length out)) × (left ≡ messageOut l p out)
   -- a refusal leaves the buffer as it was
   pub untouched : (p : Parts) (out : List ℕ) → (writtenNumber (messageWritten l p (length out)) ≡ 0 → ⊥) → messageOut l p out ≡ out
   -- else it writes that message, its content cleaned

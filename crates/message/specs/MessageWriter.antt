@@ -1,21 +1,24 @@
 -- What the writer answers and leaves in the buffer, for any arguments. It checks as the reader does, and 20 last (rule 5.8). What it writes is
 -- cleaned (rule 13.6).
-use Prim.Native.Nat.{ℕ, _+_, _-_}
+use Prim.Native.Nat.{ℕ, _+_, _-_, _≤_}
+use mathlib.Core.Path.{_≡_}
 use mathlib.Core.Bool.{Bool, cond, _&&_}
 use mathlib.Core.List.{List}
 use lib.Dec.{eqb, leb}
 use lib.ListN.{length, replicate}
 use Rattle.fields.specs.declared.Written.{Written}
 use Rattle.fields.specs.Checks.{orElse}
-use Rattle.fields.specs.Answer.{writtenOf, roomFault, outAfter}
-use Rattle.header.specs.Check.{namesFault, limitFault}
-use Rattle.metadata.specs.MetadataCheck.{indexIn}
+use Rattle.fields.specs.Writers.{writtenBy, outBy, WriterPromise}
+use Rattle.header.specs.Header.{limit}
+use Rattle.header.specs.HeaderReader.{limitFault}
+use Rattle.header.specs.HeaderWriter.{namesFault}
+use Rattle.metadata.specs.MetadataCheck.{indexSizeIn}
 use Rattle.content.specs.ContentCheck.{deepest}
 use Rattle.cleaning.specs.CleanBytes.{cleanBytes}
 use Rattle.message.specs.declared.Layout.{Layout}
 use Rattle.message.specs.declared.Layout.the-variants.{New, Old}
 use Rattle.message.specs.declared.FixedFields.{FixedFields}
-use Rattle.message.specs.Body.{Sections}
+use Rattle.message.specs.Body.{extendedLeast, Sections, MetadataFits, encodeBody}
 use Rattle.message.specs.Message.{Parts, bodyOf, encodeWith}
 use Rattle.message.specs.MessageReader.{versionFault, sectionsFault}
 
@@ -37,14 +40,27 @@ given f typeText deviceName further content metadata =
 
 -- the body and the bytes of what is given: the index is as long as INDEX_COUNT says
 abbrev pub bodyGiven : Layout → Parts → List ℕ
-bodyGiven l p = bodyOf l (indexIn (p .sections .metadata)) p
+bodyGiven l p = bodyOf l (indexSizeIn (p .sections .metadata)) p
 
 abbrev pub encodeParts : Layout → Parts → List ℕ
-encodeParts l p = encodeWith l (indexIn (p .sections .metadata)) p
+encodeParts l p = encodeWith l (indexSizeIn (p .sections .metadata)) p
 
 -- the length that check 3 of a writer compares with the limit (rule 5.11)
 abbrev pub bodyLength : ℕ → ℕ → ℕ → ℕ → ℕ
-bodyLength version further content metadata = cond (eqb version 2) (12 + further + content + metadata) content
+bodyLength version further content metadata = cond (eqb version 2) (extendedLeast + further + content + metadata) content
+
+-- what a body is written from: in V 2 the sizes of further bytes and metadata fit their fields, the content keeps the limit, and a buffer of this
+-- length has room for the body
+abbrev pub BodyFits : Layout → ℕ → List ℕ → List ℕ → List ℕ → ℕ → Type 0
+BodyFits l version further content metadata room =
+    (version ≡ 2 → (extendedLeast + length further ≤ 65535) × MetadataFits l (indexSizeIn metadata) (length metadata))
+    × (length content ≤ limit)
+    × (bodyLength version (length further) (length content) (length metadata) ≤ room)
+
+-- the body that is written from MSG_ID, the type's text, further bytes, content and metadata: the content cleaned
+abbrev pub bodyWritten : Layout → ℕ → ℕ → List ℕ → List ℕ → List ℕ → List ℕ → List ℕ
+bodyWritten l version id t further content metadata =
+    encodeBody l version (indexSizeIn metadata) (sectionsGiven id further (cleanBytes deepest t content) metadata)
 
 -- of V 2: the metadata's size of two bytes fits: in the new layout that of the index, in the old that of the whole metadata
 abbrev pub sizeFits : Layout → ℕ → ℕ → Bool
@@ -55,28 +71,24 @@ sizeFits Old index metadata = leb metadata 65535
 unfoldable pub fits : Layout → ℕ → ℕ → ℕ → ℕ → ℕ → Bool
 fits l version id further index metadata =
     cond (eqb version 2)
-    (leb (12 + further) 65535 && sizeFits l index metadata)
+    (leb (extendedLeast + further) 65535 && sizeFits l index metadata)
     (eqb id 0 && (eqb further 0 && eqb metadata 0))
 
 abbrev pub fitOk : Layout → ℕ → Sections → Bool
-fitOk l version x = fits l version (x .id) (length (x .further)) (indexIn (x .metadata)) (length (x .metadata))
+fitOk l version x = fits l version (x .id) (length (x .further)) (indexSizeIn (x .metadata)) (length (x .metadata))
 
 unfoldable pub fitFault : Layout → ℕ → Sections → ℕ
 fitFault l version x = cond (fitOk l version x) 0 6
 
 -- checks 4 to 11
-unfoldable pub sectionsChecks : Layout → ℕ → List ℕ → Sections → ℕ
-sectionsChecks l version t x = orElse (versionFault version) (orElse (fitFault l version x) (sectionsFault t x))
+unfoldable pub givenSectionsFault : Layout → ℕ → List ℕ → Sections → ℕ
+givenSectionsFault l version t x = orElse (versionFault version) (orElse (fitFault l version x) (sectionsFault t x))
 
 -- checks 2, 3, then 4 to 11
-unfoldable pub writeChecks : Layout → Parts → ℕ
-writeChecks l p =
+unfoldable pub givenFault : Layout → Parts → ℕ
+givenFault l p =
     orElse (namesFault (p .typeText) (p .deviceName))
-    (orElse (limitFault (length (bodyGiven l p))) (sectionsChecks l (p .version) (p .typeText) (p .sections)))
-
--- into a buffer of this length
-unfoldable pub writeFault : Layout → Parts → ℕ → ℕ
-writeFault l p room = orElse (writeChecks l p) (roomFault (length (encodeParts l p)) room)
+    (orElse (limitFault (length (bodyGiven l p))) (givenSectionsFault l (p .version) (p .typeText) (p .sections)))
 
 -- the message that is written: its content cleaned
 abbrev pub cleanSections : List ℕ → Sections → Sections
@@ -94,8 +106,16 @@ cleanParts p =
       sections = cleanSections (p .typeText) (p .sections);
     }
 
-unfoldable pub messageWritten : Layout → Parts → ℕ → Written
-messageWritten l p room = writtenOf (writeFault l p room) (length (encodeParts l p))
+abbrev pub messageBytes : Layout → Parts → List ℕ
+messageBytes l p = encodeParts l (cleanParts p)
 
-unfoldable pub messageOut : Layout → Parts → List ℕ → List ℕ
-messageOut l p out = outAfter (writeFault l p (length out)) (encodeParts l (cleanParts p)) out
+-- the answer for a buffer of this length, and the buffer that is left: these checks, then 20
+abbrev pub messageWritten : Layout → Parts → ℕ → Written
+messageWritten l p room = writtenBy (givenFault l p) (messageBytes l p) room
+
+abbrev pub messageOut : Layout → Parts → List ℕ → List ℕ
+messageOut l p out = outBy (givenFault l p) (messageBytes l p) out
+
+-- what the writer promises of its answer and of the buffer left
+abbrev pub MessagePromise : Layout → Parts → List ℕ → Written → List ℕ → Type 0
+MessagePromise l p out answer left = WriterPromise (givenFault l p) (messageBytes l p) out answer left

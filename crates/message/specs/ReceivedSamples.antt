@@ -4,8 +4,7 @@ use Prim.Native.Nat.{ℕ}
 use mathlib.Core.Path.{_≡_}
 use mathlib.Core.Bool.{false}
 use mathlib.Core.List.{List, [], _∷_, _++_}
-use lib.ListN.{length, take, drop, replicate}
-use Rattle.fields.specs.declared.Written.{Written}
+use lib.ListN.{length, drop, replicate}
 use Rattle.fields.specs.declared.Written.the-variants.{Wrote, Refused}
 use Rattle.fields.specs.Layout.{join}
 use Rattle.metadata.specs.Metadata.{absent}
@@ -15,7 +14,6 @@ use Rattle.content.specs.Tree.{transform, bind, none, more}
 use Rattle.message.specs.declared.Layout.{Layout}
 use Rattle.message.specs.declared.Layout.the-variants.{New, Old}
 use Rattle.message.specs.declared.Answer.{Answer}
-use Rattle.message.specs.declared.FixedFields.{FixedFields}
 use Rattle.message.specs.Message.{Message, WellFormed, encode, cleaned}
 use Rattle.message.specs.MessageReader.{refused, readOf, typeIn, nameIn, contentIn}
 use Rattle.message.specs.MessageWriter.{given, messageWritten, messageOut}

@@ -2,21 +2,24 @@
 // content.
 use crate::Layout;
 use crate::extended;
+use fields::number::SIZE_LIMIT;
 use fields::number::be16;
+use header::BODY_LIMIT;
 ghost use mathlib.Core.Path.{_≡_};
 ghost use mathlib.Core.Bool.{true};
-ghost use Prim.Native.Nat.{_+_, _≤_};
+ghost use Prim.Native.Nat.{_-_, _≤_};
 ghost use lib.ListN.{length};
 ghost use lib.Seq.{sets};
-ghost use Rattle.fields.specs.Layout.{join};
-ghost use Rattle.message.specs.Body.{extendedFields, encodeBody, MetadataFits};
-ghost use Rattle.message.specs.MessageReader.{extendedOk, bodyFault, sizesFault, placesOf};
-ghost use Rattle.message.specs.MessageWriter.{sectionsGiven, bodyLength, fits};
-ghost use Rattle.metadata.specs.MetadataCheck.{indexIn};
+ghost use Rattle.message.specs.MessageReader.{extendedSize, sectionSize, extendedOk, extendedFault, sizesFault, placesOf};
+ghost use Rattle.message.specs.MessageWriter.{bodyLength, BodyFits, bodyWritten, fits};
 ghost use Rattle.header.specs.Header.{limit};
-ghost use Rattle.content.specs.ContentCheck.{deepest};
-ghost use Rattle.cleaning.specs.CleanBytes.{cleanBytes};
 ghost use lib.Dec.{leb};
+
+// The bytes of an extended header without further bytes, which is the least EXT_HEADER_SIZE (rule 3.6), and how many further bytes its two bytes
+// allow.
+pub(crate) const EXTENDED_LEAST: usize = 12;
+
+const FURTHER_LIMIT: usize = SIZE_LIMIT - EXTENDED_LEAST;
 
 // MSG_ID, and where the sections stand in the body.
 pub struct Places {
@@ -31,31 +34,32 @@ pub struct Places {
 
 // ---- the reader's checks
 
-// Check 6 of a body of V 2. No sum of the sizes wraps.
-fn is_extended(layout: Layout, body: &[u8]) -> bool
+// Check 6 of a body of V 2, whose extended header and metadata have these sizes. Their sum does not wrap.
+fn is_extended(layout: Layout, body: &[u8], size: usize, metadata: usize) -> bool
+    requires { ⌜ (size ≡ extendedSize (now body)) × (metadata ≡ sectionSize layout (now body)) ⌝ }
     ensures { λ r. ⌜ r ≡ extendedOk layout (now (body .entry)) ⌝ }
 {
-    if body.len() < 12 {
+    if body.len() < EXTENDED_LEAST {
         return false;
     }
-    let size = be16(body, 0) as usize;
-    if size < 12 {
+    if size < EXTENDED_LEAST {
         return false;
     }
     if !extended::reserved_ok(layout, body) {
         return false;
     }
-    size + extended::section_size(layout, body) <= body.len()
+    size + metadata <= body.len()
 }
 
-// Check 6 of a body: 6, or 0 for none.
-pub(crate) fn body_fault(layout: Layout, version: u16, body: &[u8]) -> u8
-    ensures { λ r. ⌜ r ≡ bodyFault layout version (now (body .entry)) ⌝ }
+// Check 6 of a body whose sections stand at these places: 6, or 0 for none.
+pub(crate) fn extended_fault(layout: Layout, version: u16, body: &[u8], places: Places) -> u8
+    requires { ⌜ places ≡ placesOf layout version (now body) ⌝ }
+    ensures { λ r. ⌜ r ≡ extendedFault layout version (now (body .entry)) ⌝ }
 {
     if version != 2 {
         return 0;
     }
-    if is_extended(layout, body) {
+    if is_extended(layout, body, places.content_at, places.metadata_len) {
         return 0;
     }
     6
@@ -68,12 +72,18 @@ pub(crate) fn sizes_fault(layout: Layout, version: u16, body: &[u8], section: &[
     if version != 2 {
         return 0;
     }
-    extended::index_fault(layout, body, section)
+    extended::index_size_fault(layout, body, section)
 }
 
-// Where the sections of a body without fault stand.
+// What is left of n after m; 0 where m is more.
+fn left(n: usize, m: usize) -> usize
+    ensures { λ r. ⌜ r ≡ n - m ⌝ }
+{
+    if n < m { 0 } else { n - m }
+}
+
+// Where the sections of a body stand, by the sizes in it. Check 6 says whether they can stand there.
 pub(crate) fn sections(layout: Layout, version: u16, body: &[u8]) -> Places
-    requires { ⌜ bodyFault layout version (now body) ≡ 0 ⌝ }
     ensures { λ r. ⌜ r ≡ placesOf layout version (now (body .entry)) ⌝ }
 {
     let n = body.len();
@@ -92,11 +102,11 @@ pub(crate) fn sections(layout: Layout, version: u16, body: &[u8]) -> Places
     let metadata_len = extended::section_size(layout, body);
     Places {
         id: extended::id_of(layout, body),
-        further_at: 12,
-        further_len: size - 12,
+        further_at: EXTENDED_LEAST,
+        further_len: left(size, EXTENDED_LEAST),
         content_at: size,
-        content_len: n - (size + metadata_len),
-        metadata_at: n - metadata_len,
+        content_len: left(n, size + metadata_len),
+        metadata_at: left(n, metadata_len),
         metadata_len: metadata_len,
     }
 }
@@ -107,30 +117,31 @@ pub(crate) fn sections(layout: Layout, version: u16, body: &[u8]) -> Places
 pub(crate) fn within_limit(version: u16, further: usize, content: usize, metadata: usize) -> bool
     ensures { λ r. ⌜ r ≡ leb (bodyLength version further content metadata) limit ⌝ }
 {
-    if 16777216 < content {
+    if BODY_LIMIT < content {
         return false;
     }
     if version != 2 {
         return true;
     }
-    if 16777216 < further {
+    if BODY_LIMIT < further {
         return false;
     }
-    if 16777216 < metadata {
+    if BODY_LIMIT < metadata {
         return false;
     }
-    12 + further + content + metadata <= 16777216
+    EXTENDED_LEAST + further + content + metadata <= BODY_LIMIT
 }
 
 // The body's length, for sections that keep the limit.
 pub(crate) fn body_len(version: u16, further: usize, content: usize, metadata: usize) -> usize
     requires { ⌜ bodyLength version further content metadata ≤ limit ⌝ }
-    ensures { λ r. ⌜ r ≡ bodyLength version further content metadata ⌝ }
+    ensures value { λ r. ⌜ r ≡ bodyLength version further content metadata ⌝ }
+    ensures bound { λ r. ⌜ r ≤ limit ⌝ }
 {
     if version != 2 {
         return content;
     }
-    12 + further + content + metadata
+    EXTENDED_LEAST + further + content + metadata
 }
 
 // Check 6 of a writer (rule 5.9): can a body of this version have such sections?
@@ -145,7 +156,7 @@ pub(crate) fn is_fit(
     ensures { λ r. ⌜ r ≡ fits layout version id further index metadata ⌝ }
 {
     if version == 2 {
-        if 65523 < further {
+        if FURTHER_LIMIT < further {
             return false;
         }
         return extended::size_fits(layout, index, metadata);
@@ -169,10 +180,10 @@ fn put_extended(
     metadata: &[u8],
     out: &mut [u8],
 )
-    requires { ⌜ (12 + length (now further) ≤ 65535) × MetadataFits layout (indexIn (now metadata)) (length (now metadata)) × (length (now content) ≤ limit) × (12 + length (now further) + length (now content) ≤ length (now out)) ⌝ }
-    ensures { λ _. ⌜ now (out .exit) ≡ sets (now (out .entry)) 0 (join (extendedFields layout (indexIn (now (metadata .entry))) (sectionsGiven id (now (further .entry)) (cleanBytes deepest (now («type_text» .entry)) (now (content .entry))) (now (metadata .entry))))) ⌝ }
+    requires { ⌜ BodyFits layout 2 (now further) (now content) (now metadata) (length (now out)) ⌝ }
+    ensures { λ _. ⌜ now (out .exit) ≡ sets (now (out .entry)) 0 (bodyWritten layout 2 id (now («type_text» .entry)) (now (further .entry)) (now (content .entry)) (now (metadata .entry))) ⌝ }
 {
-    let content_at = 12 + further.len();
+    let content_at = EXTENDED_LEAST + further.len();
     let metadata_at = content_at + content.len();
     let index = metadata::index_size(metadata);
     let numbers = extended::extended_numbers(layout, index, metadata.len(), id);
@@ -180,8 +191,8 @@ fn put_extended(
     fields::number::put16(numbers.second, 2, out);
     fields::number::put32(numbers.third, 4, out);
     fields::number::put32(numbers.fourth, 8, out);
-    fields::store::put(further, 12, out);
-    cleaning::put_clean(type_text, content, 4, content_at, out);
+    fields::store::put(further, EXTENDED_LEAST, out);
+    cleaning::put_clean(type_text, content, content::DEEPEST, content_at, out);
     fields::store::put(metadata, metadata_at, out);
 }
 
@@ -196,12 +207,12 @@ pub(crate) fn put_body(
     metadata: &[u8],
     out: &mut [u8],
 )
-    requires { ⌜ (version ≡ 2 → (12 + length (now further) ≤ 65535) × MetadataFits layout (indexIn (now metadata)) (length (now metadata))) × (length (now content) ≤ limit) × (bodyLength version (length (now further)) (length (now content)) (length (now metadata)) ≤ length (now out)) ⌝ }
-    ensures { λ _. ⌜ now (out .exit) ≡ sets (now (out .entry)) 0 (encodeBody layout version (indexIn (now (metadata .entry))) (sectionsGiven id (now (further .entry)) (cleanBytes deepest (now («type_text» .entry)) (now (content .entry))) (now (metadata .entry)))) ⌝ }
+    requires { ⌜ BodyFits layout version (now further) (now content) (now metadata) (length (now out)) ⌝ }
+    ensures { λ _. ⌜ now (out .exit) ≡ sets (now (out .entry)) 0 (bodyWritten layout version id (now («type_text» .entry)) (now (further .entry)) (now (content .entry)) (now (metadata .entry))) ⌝ }
 {
     if version == 2 {
         put_extended(layout, id, further, type_text, content, metadata, out);
         return;
     }
-    cleaning::put_clean(type_text, content, 4, 0, out);
+    cleaning::put_clean(type_text, content, content::DEEPEST, 0, out);
 }

@@ -1,11 +1,12 @@
 // What goes by the layout (rule 3.6): the numbers after EXT_HEADER_SIZE, in a body that is read and in one that is written. Nothing else
 // knows what they mean.
 use crate::Layout;
+use fields::number::SIZE_LIMIT;
 use fields::number::be16;
 use fields::number::be32;
 ghost use mathlib.Core.Path.{_≡_};
 ghost use Rattle.message.specs.Body.{extendedNumbers, MetadataFits};
-ghost use Rattle.message.specs.MessageReader.{sectionSize, idAt, reservedOk, indexFault};
+ghost use Rattle.message.specs.MessageReader.{sectionSize, idAt, reservedOk, indexSizeFault};
 ghost use Rattle.message.specs.MessageWriter.{sizeFits};
 
 // The numbers after EXT_HEADER_SIZE, which have two, four and four bytes.
@@ -46,8 +47,8 @@ pub(crate) fn reserved_ok(layout: Layout, body: &[u8]) -> bool
 }
 
 // 7 where there is a METADATA_HEADER_SIZE and it is not the section's, or 0.
-pub(crate) fn index_fault(layout: Layout, body: &[u8], section: &[u8]) -> u8
-    ensures { λ r. ⌜ r ≡ indexFault layout (now (body .entry)) (now (section .entry)) ⌝ }
+pub(crate) fn index_size_fault(layout: Layout, body: &[u8], section: &[u8]) -> u8
+    ensures { λ r. ⌜ r ≡ indexSizeFault layout (now (body .entry)) (now (section .entry)) ⌝ }
 {
     match layout {
         Layout::New => {
@@ -65,8 +66,8 @@ pub(crate) fn size_fits(layout: Layout, index: usize, metadata: usize) -> bool
     ensures { λ r. ⌜ r ≡ sizeFits layout index metadata ⌝ }
 {
     match layout {
-        Layout::New => index <= 65535,
-        Layout::Old => metadata <= 65535,
+        Layout::New => index <= SIZE_LIMIT,
+        Layout::Old => metadata <= SIZE_LIMIT,
     }
 }
 

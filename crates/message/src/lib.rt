@@ -2,21 +2,19 @@
 mod body;
 mod extended;
 
+use body::Places;
 use fields::Checked;
 use fields::Written;
 use fields::marked;
+use header::HEADER_SIZE;
 ghost use mathlib.Core.Path.{_≡_};
 ghost use Prim.Native.Nat.{_+_, _≤_};
 ghost use mathlib.Core.List.{_++_};
 ghost use lib.ListN.{length, drop};
-ghost use Rattle.fields.specs.Checks.{orElse};
 ghost use Rattle.header.specs.Header.{limit};
-ghost use Rattle.metadata.specs.MetadataCheck.{metadataFault};
-ghost use Rattle.fields.specs.Answer.{checked};
-ghost use Rattle.content.specs.ContentCheck.{contentFault, contentClean, deepest};
 ghost use Rattle.message.specs.LayoutNumber.{layoutOf};
-ghost use Rattle.message.specs.MessageReader.{versionFault, bodyFault, bodyChecked, placesOf, refused, accepted, readOf, typeIn, nameIn, furtherIn, contentIn, metadataIn};
-ghost use Rattle.message.specs.MessageWriter.{given, cleanParts, bodyGiven, encodeParts, sectionsGiven, sectionsChecks, writeChecks, messageWritten, messageOut};
+ghost use Rattle.message.specs.MessageReader.{versionFault, contentsFault, contentsChecked, bodyChecked, placesOf, Within, refused, accepted, readOf, typeIn, nameIn, furtherIn, contentIn, metadataIn};
+ghost use Rattle.message.specs.MessageWriter.{given, bodyGiven, sectionsGiven, givenSectionsFault, givenFault, messageBytes, MessagePromise};
 
 // The two layouts of the extended header (rule 3.6). Whoever reads or writes names one.
 pub enum Layout {
@@ -100,7 +98,7 @@ fn version_fault(version: u16) -> u8
 
 // Check 7, and those of the content, with its mark.
 fn contents_check(type_text: &[u8], content: &[u8], metadata: &[u8]) -> Checked
-    ensures { λ r. ⌜ r ≡ checked (orElse (metadataFault (now (metadata .entry))) (contentFault deepest (now («type_text» .entry)) (now (content .entry)))) (contentClean deepest (now («type_text» .entry)) (now (content .entry))) ⌝ }
+    ensures { λ r. ⌜ r ≡ contentsChecked (now («type_text» .entry)) (now (content .entry)) (now (metadata .entry)) ⌝ }
 {
     let fault = metadata::metadata_fault(metadata);
     if fault != 0 {
@@ -111,14 +109,22 @@ fn contents_check(type_text: &[u8], content: &[u8], metadata: &[u8]) -> Checked
 
 // The number alone.
 fn contents_fault(type_text: &[u8], content: &[u8], metadata: &[u8]) -> u8
-    ensures { λ r. ⌜ r ≡ orElse (metadataFault (now (metadata .entry))) (contentFault deepest (now («type_text» .entry)) (now (content .entry))) ⌝ }
+    ensures { λ r. ⌜ r ≡ contentsFault (now («type_text» .entry)) (now (content .entry)) (now (metadata .entry)) ⌝ }
 {
     let answer = contents_check(type_text, content, metadata);
     answer.number
 }
 
-// Checks 4 to 11, of a message that is there whole, with its content's mark.
-fn body_checks(layout: Layout, version: u16, crc: u64, type_text: &[u8], body: &[u8]) -> Checked
+// Checks 4 to 11, of a message that is there whole and whose sections stand at these places of its body; with its content's mark.
+fn body_check(
+    layout: Layout,
+    version: u16,
+    crc: u64,
+    type_text: &[u8],
+    body: &[u8],
+    places: Places,
+) -> Checked
+    requires { ⌜ places ≡ placesOf layout version (now body) ⌝ }
     ensures { λ r. ⌜ r ≡ bodyChecked layout version crc (now («type_text» .entry)) (now (body .entry)) ⌝ }
 {
     let fault = version_fault(version);
@@ -128,11 +134,10 @@ fn body_checks(layout: Layout, version: u16, crc: u64, type_text: &[u8], body: &
     if crc64::crc64(body) != crc {
         return marked(5, false);
     }
-    let fault = body::body_fault(layout, version, body);
+    let fault = body::extended_fault(layout, version, body, places);
     if fault != 0 {
         return marked(fault, false);
     }
-    let places = body::sections(layout, version, body);
     let metadata = fields::slice::part(body, places.metadata_at, places.metadata_len);
     let fault = body::sizes_fault(layout, version, body, metadata);
     if fault != 0 {
@@ -145,25 +150,24 @@ fn body_checks(layout: Layout, version: u16, crc: u64, type_text: &[u8], body: &
     )
 }
 
-// The answer to an accepted message with this mark.
-fn accept(layout: Layout, header: header::HeaderRead, body: &[u8], clean: bool) -> Answer
-    requires { ⌜ (bodyFault layout (header .version) (now body) ≡ 0) × (header .«body_size» ≤ limit) × (length (now body) ≤ limit) ⌝ }
-    ensures { λ r. ⌜ r ≡ accepted header (placesOf layout (header .version) (now (body .entry))) clean ⌝ }
+// The answer to an accepted message with this mark, whose sections stand at these places of its body.
+fn accept(header: header::HeaderRead, places: Places, clean: bool) -> Answer
+    requires { ⌜ (header .«body_size» ≤ limit) × Within places (header .«body_size») ⌝ }
+    ensures { λ r. ⌜ r ≡ accepted header places clean ⌝ }
 {
-    let places = body::sections(layout, header.version, body);
     Answer {
         number: 0,
-        step: 58 + header.body_size,
+        step: HEADER_SIZE + header.body_size,
         version: header.version,
         type_len: header.type_len,
         name_len: header.name_len,
         time_stamp: header.time_stamp,
         id: places.id,
-        further_at: 58 + places.further_at,
+        further_at: HEADER_SIZE + places.further_at,
         further_len: places.further_len,
-        content_at: 58 + places.content_at,
+        content_at: HEADER_SIZE + places.content_at,
         content_len: places.content_len,
-        metadata_at: 58 + places.metadata_at,
+        metadata_at: HEADER_SIZE + places.metadata_at,
         metadata_len: places.metadata_len,
         clean,
     }
@@ -179,26 +183,23 @@ pub fn read(layout: Layout, stream: &[u8]) -> Answer
         return refusal(number, 0);
     }
     let size = header.body_size;
-    if stream.len() < 58 + size {
+    if stream.len() < HEADER_SIZE + size {
         return refusal(1, 0);
     }
-    let body = fields::slice::part(stream, 58, size);
-    let checks = body_checks(
+    let body = fields::slice::part(stream, HEADER_SIZE, size);
+    let places = body::sections(layout, header.version, body);
+    let checks = body_check(
         layout,
         header.version,
         header.crc,
-        header::type_text(stream),
+        header::type_text(stream, header),
         body,
+        places,
     );
     if checks.number != 0 {
-        return refusal(checks.number, 58 + size);
+        return refusal(checks.number, HEADER_SIZE + size);
     }
-    accept(
-        layout,
-        header,
-        body,
-        fields::both(header.clean, checks.clean),
-    )
+    accept(header, places, fields::both(header.clean, checks.clean))
 }
 
 // ---- the parts that an answer names. They are cut from the stream, which is not read again; for an answer to another stream they hold as
@@ -238,7 +239,7 @@ pub fn metadata(stream: &[u8], answer: Answer) -> &[u8]
 // ---- the writer
 
 // Checks 4 to 11 of a writer.
-fn sections_checks(
+fn given_sections_fault(
     layout: Layout,
     fixed: FixedFields,
     type_text: &[u8],
@@ -246,7 +247,7 @@ fn sections_checks(
     content: &[u8],
     metadata: &[u8],
 ) -> u8
-    ensures { λ r. ⌜ r ≡ sectionsChecks layout (fixed .version) (now («type_text» .entry)) (sectionsGiven (fixed .id) (now (further .entry)) (now (content .entry)) (now (metadata .entry))) ⌝ }
+    ensures { λ r. ⌜ r ≡ givenSectionsFault layout (fixed .version) (now («type_text» .entry)) (sectionsGiven (fixed .id) (now (further .entry)) (now (content .entry)) (now (metadata .entry))) ⌝ }
 {
     let fault = version_fault(fixed.version);
     if fault != 0 {
@@ -267,7 +268,7 @@ fn sections_checks(
 }
 
 // All checks of a writer but that of the room.
-fn write_checks(
+fn given_fault(
     layout: Layout,
     fixed: FixedFields,
     type_text: &[u8],
@@ -276,7 +277,7 @@ fn write_checks(
     content: &[u8],
     metadata: &[u8],
 ) -> u8
-    ensures { λ r. ⌜ r ≡ writeChecks layout (given fixed (now («type_text» .entry)) (now («device_name» .entry)) (now (further .entry)) (now (content .entry)) (now (metadata .entry))) ⌝ }
+    ensures { λ r. ⌜ r ≡ givenFault layout (given fixed (now («type_text» .entry)) (now («device_name» .entry)) (now (further .entry)) (now (content .entry)) (now (metadata .entry))) ⌝ }
 {
     let fault = header::names_fault(type_text, device_name);
     if fault != 0 {
@@ -285,7 +286,7 @@ fn write_checks(
     if !body::within_limit(fixed.version, further.len(), content.len(), metadata.len()) {
         return 3;
     }
-    sections_checks(layout, fixed, type_text, further, content, metadata)
+    given_sections_fault(layout, fixed, type_text, further, content, metadata)
 }
 
 // Writes a message that passed the checks, its content cleaned, into a buffer with room for its body of so many bytes.
@@ -300,8 +301,18 @@ fn put_message(
     size: usize,
     out: &mut [u8],
 )
-    requires { ⌜ (writeChecks layout (given fixed (now «type_text») (now «device_name») (now further) (now content) (now metadata)) ≡ 0) × (size ≡ length (bodyGiven layout (given fixed (now «type_text») (now «device_name») (now further) (now content) (now metadata)))) × (58 + size ≤ length (now out)) ⌝ }
-    ensures { λ _. ⌜ now (out .exit) ≡ encodeParts layout (cleanParts (given fixed (now («type_text» .entry)) (now («device_name» .entry)) (now (further .entry)) (now (content .entry)) (now (metadata .entry)))) ++ drop (58 + size) (now (out .entry)) ⌝ }
+    requires { ⌜
+        (givenFault layout (given fixed (now «type_text») (now «device_name») (now further) (now content) (now metadata)) ≡ 0)
+        × (size ≡ length (bodyGiven layout (given fixed (now «type_text») (now «device_name») (now further) (now content) (now metadata))))
+        × (58 + size ≤ length (now out))
+        ⌝ }
+    ensures { λ _.
+        ⌜
+        now (out .exit)
+        ≡ messageBytes layout
+        (given fixed (now («type_text» .entry)) (now («device_name» .entry)) (now (further .entry)) (now (content .entry)) (now (metadata .entry)))
+        ++ drop (58 + size) (now (out .entry))
+        ⌝ }
 {
     body::put_body(
         layout,
@@ -311,9 +322,9 @@ fn put_message(
         type_text,
         content,
         metadata,
-        &mut out[58..58 + size],
+        &mut out[HEADER_SIZE..HEADER_SIZE + size],
     );
-    let crc = crc64::crc64(&out[58..58 + size]);
+    let crc = crc64::crc64(&out[HEADER_SIZE..HEADER_SIZE + size]);
     let header = header::HeaderFields {
         version: fixed.version,
         time_stamp: fixed.time_stamp,
@@ -334,13 +345,18 @@ fn write_checked(
     metadata: &[u8],
     out: &mut [u8],
 ) -> Written
-    requires { ⌜ writeChecks layout (given fixed (now «type_text») (now «device_name») (now further) (now content) (now metadata)) ≡ 0 ⌝ }
-    ensures answer { λ r. ⌜ r ≡ messageWritten layout (given fixed (now («type_text» .entry)) (now («device_name» .entry)) (now (further .entry)) (now (content .entry)) (now (metadata .entry))) (length (now (out .entry))) ⌝ }
-    ensures bytes { λ _. ⌜ now (out .exit) ≡ messageOut layout (given fixed (now («type_text» .entry)) (now («device_name» .entry)) (now (further .entry)) (now (content .entry)) (now (metadata .entry))) (now (out .entry)) ⌝ }
+    requires { ⌜ givenFault layout (given fixed (now «type_text») (now «device_name») (now further) (now content) (now metadata)) ≡ 0 ⌝ }
+    ensures { λ r.
+        ⌜
+        MessagePromise layout
+        (given fixed (now («type_text» .entry)) (now («device_name» .entry)) (now (further .entry)) (now (content .entry)) (now (metadata .entry)))
+        (now (out .entry)) r (now (out .exit))
+        ⌝ }
 {
     let size = body::body_len(fixed.version, further.len(), content.len(), metadata.len());
-    if out.len() < 58 + size {
-        return Written::Refused(20);
+    let short = fields::room_fault(HEADER_SIZE + size, out.len());
+    if short != 0 {
+        return Written::Refused(short);
     }
     put_message(
         layout,
@@ -353,7 +369,7 @@ fn write_checked(
         size,
         out,
     );
-    Written::Wrote(58 + size)
+    Written::Wrote(HEADER_SIZE + size)
 }
 
 // Writes a message to the front of a buffer, in this layout, its content cleaned (rule 13.6). The metadata is given as the bytes of its
@@ -368,10 +384,14 @@ pub fn write(
     metadata: &[u8],
     out: &mut [u8],
 ) -> Written
-    ensures answer { λ r. ⌜ r ≡ messageWritten layout (given fixed (now («type_text» .entry)) (now («device_name» .entry)) (now (further .entry)) (now (content .entry)) (now (metadata .entry))) (length (now (out .entry))) ⌝ }
-    ensures bytes { λ _. ⌜ now (out .exit) ≡ messageOut layout (given fixed (now («type_text» .entry)) (now («device_name» .entry)) (now (further .entry)) (now (content .entry)) (now (metadata .entry))) (now (out .entry)) ⌝ }
+    ensures { λ r.
+        ⌜
+        MessagePromise layout
+        (given fixed (now («type_text» .entry)) (now («device_name» .entry)) (now (further .entry)) (now (content .entry)) (now (metadata .entry)))
+        (now (out .entry)) r (now (out .exit))
+        ⌝ }
 {
-    let fault = write_checks(
+    let fault = given_fault(
         layout,
         fixed,
         type_text,

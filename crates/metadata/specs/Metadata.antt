@@ -7,6 +7,7 @@ use Rattle.fields.specs.Lists.{Each, flat}
 use Rattle.fields.specs.Numbers.{beBytes}
 use Rattle.fields.specs.Text.{Text}
 use Rattle.fields.specs.Layout.{join}
+use Rattle.fields.specs.Tables.{counted}
 
 -- a key, VALUE_ENCODING and a value
 pub record Entry : Type 0 where
@@ -30,7 +31,7 @@ entryData e = e .key ++ e .value
 -- the count, the headers, and then each key with its value; no section is no bytes
 unfoldable pub encodeMetadata : Metadata → List ℕ
 encodeMetadata absent = []
-encodeMetadata (section es) = beBytes 2 (length es) ++ (flat entryHeader es ++ flat entryData es)
+encodeMetadata (section es) = counted entryHeader es (flat entryData es)
 
 -- the bytes of INDEX_COUNT and the headers
 abbrev pub indexSize : Metadata → ℕ

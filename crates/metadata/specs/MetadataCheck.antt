@@ -1,19 +1,20 @@
 -- Check 7: does metadata break rules 3.8 and 3.9? A section by itself may have any length (rule 5.7), and no bytes are no section.
-use Prim.Native.Nat.{ℕ, zero, suc, _+_, _*_}
+use Prim.Native.Nat.{ℕ, _+_, _*_}
 use mathlib.Core.Bool.{Bool, cond, _&&_}
 use mathlib.Core.List.{List}
 use lib.Dec.{eqb, ltb, leb}
 use lib.ListN.{length, take, drop}
 use Rattle.fields.specs.Numbers.{beAt}
 use Rattle.fields.specs.Text.{isText}
+use Rattle.fields.specs.Tables.{itemsOk}
 
 -- INDEX_COUNT
 abbrev pub indexCount : List ℕ → ℕ
 indexCount s = beAt 2 0 s
 
 -- the bytes of INDEX_COUNT and the headers, by INDEX_COUNT
-unfoldable pub indexIn : List ℕ → ℕ
-indexIn s = cond (eqb (length s) 0) 0 (2 + 8 * indexCount s)
+unfoldable pub indexSizeIn : List ℕ → ℕ
+indexSizeIn s = cond (eqb (length s) 0) 0 (2 + 8 * indexCount s)
 
 -- of the entry header at the front of h: KEY_SIZE, VALUE_ENCODING, VALUE_SIZE
 abbrev pub keySize : List ℕ → ℕ
@@ -34,10 +35,9 @@ entrySize h = keySize h + valueSize h
 unfoldable pub entryOk : List ℕ → List ℕ → Bool
 entryOk h d = ltb 0 (keySize h) && (leb (entrySize h) (length d) && isText (take (keySize h) d))
 
--- k entries, by what is left of the headers and of the data, and no byte left over
+-- k entries, and no byte left over
 unfoldable pub entriesOk : ℕ → List ℕ → List ℕ → Bool
-entriesOk zero h d = eqb (length d) 0
-entriesOk (suc k) h d = entryOk h d && entriesOk k (drop 8 h) (drop (entrySize h) d)
+entriesOk k h d = itemsOk 8 (λ h d. drop (entrySize h) d) entryOk (λ d. eqb (length d) 0) k h d
 
 -- the entries' headers, and what follows them
 abbrev pub headersOf : List ℕ → List ℕ

@@ -5,7 +5,7 @@ mod entry_walk;
 mod section_parts;
 
 ghost use mathlib.Core.Path.{_≡_};
-ghost use Rattle.metadata.specs.MetadataCheck.{indexIn, sectionOk, metadataFault};
+ghost use Rattle.metadata.specs.MetadataCheck.{indexSizeIn, sectionOk, metadataFault};
 ghost use Rattle.metadata.specs.ValueLookup.{refused, valuePlace, valueOf};
 
 // The number (rule 5.1), the value's VALUE_ENCODING, and where the value stands in the section and how long it is: all 0 besides the
@@ -37,7 +37,7 @@ fn section_ok(section: &[u8]) -> bool
         return false;
     }
     let n = section_parts::index_count(section);
-    if section.len() < 2 + 8 * n {
+    if section.len() < 2 + section_parts::ENTRY_HEADER_SIZE * n {
         return false;
     }
     entry_walk::entries_ok(
@@ -49,12 +49,12 @@ fn section_ok(section: &[u8]) -> bool
 
 // The bytes that INDEX_COUNT and the entries' headers take, by INDEX_COUNT; 0 for no section. Nothing is checked here.
 pub fn index_size(section: &[u8]) -> usize
-    ensures { λ r. ⌜ r ≡ indexIn (now (section .entry)) ⌝ }
+    ensures { λ r. ⌜ r ≡ indexSizeIn (now (section .entry)) ⌝ }
 {
     if section.len() == 0 {
         return 0;
     }
-    2 + 8 * section_parts::index_count(section)
+    2 + section_parts::ENTRY_HEADER_SIZE * section_parts::index_count(section)
 }
 
 // 7 where the section breaks its rule, or 0.

@@ -3,6 +3,9 @@ ghost use mathlib.Core.Path.{_≡_};
 ghost use lib.ListN.{drop};
 ghost use Rattle.metadata.specs.MetadataCheck.{indexCount, keySize, encodingOf, valueSize, entrySize, headersOf, dataOf};
 
+// The bytes of an entry's header (rule 3.8).
+pub(crate) const ENTRY_HEADER_SIZE: usize = 8;
+
 // INDEX_COUNT.
 pub(crate) fn index_count(section: &[u8]) -> usize
     ensures { λ r. ⌜ r ≡ indexCount (now (section .entry)) ⌝ }
@@ -21,14 +24,14 @@ pub(crate) fn headers_of(section: &[u8]) -> &[u8]
 pub(crate) fn data_of(section: &[u8]) -> &[u8]
     ensures { λ r. ⌜ now r ≡ dataOf (now (section .entry)) ⌝ }
 {
-    fields::slice::rest(section, 2 + 8 * index_count(section))
+    fields::slice::rest(section, 2 + ENTRY_HEADER_SIZE * index_count(section))
 }
 
 // What stands after the first header: the headers of the entries after it.
 pub(crate) fn after_header(headers: &[u8]) -> &[u8]
     ensures { λ r. ⌜ now r ≡ drop 8 (now (headers .entry)) ⌝ }
 {
-    fields::slice::rest(headers, 8)
+    fields::slice::rest(headers, ENTRY_HEADER_SIZE)
 }
 
 // The first header's KEY_SIZE.

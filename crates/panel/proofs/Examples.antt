@@ -30,10 +30,10 @@ use Rattle.message.proofs.Samples.{samples, by-layout}
 use Rattle.message.proofs.ReceivedSamples.{received-samples}
 use Rattle.message.proofs.Laws.Messages.{demand-2}
 use Rattle.history.specs.Calls.{add, linkUp, linkDown, message, look, green, grey, Answer, refused, accepted, empty, shown}
-use Rattle.history.specs.Summary.{Summary, isAllowed, allowedFault, clockFault, numberOn}
+use Rattle.history.specs.Summary.{Summary, isAllowed, allowedFault, clockFault, faultOn}
 use Rattle.history.specs.History.{valueFor, Shown}
-use Rattle.history.specs.BookTheorems.{armBytesCalls, damagedBytes}
-use Rattle.history.proofs.BookTheorems.{book-theorems}
+use Rattle.history.specs.BookExamples.{armBytesCalls, damagedBytes}
+use Rattle.history.proofs.BookExamples.{book-examples}
 use Rattle.panel.specs.declared.Label.{Label}
 use Rattle.panel.specs.declared.Value.{Value}
 use Rattle.panel.specs.declared.LookAnswer.{LookAnswer}
@@ -134,7 +134,7 @@ arm-panel =
     let p = linkedPanel New in
     ap (λ (s : List ℕ). panelNext p (message 1200 s)) (sym (samples .arm (p .link .layout) .bytes))
     ∙ counted-panel p armMessage (arm-from (p .link .layout)) 1200 (linked-counts New)
-    ∙ ap (λ (c : List ℕ). countedPanel p 1200 (valueOf c)) (book-theorems .value)
+    ∙ ap (λ (c : List ℕ). countedPanel p 1200 (valueOf c)) (book-examples .value)
 
 arm-look : (i now : ℕ) (a : LookAnswer) (v : Value)
     → (let p = countedPanel (linkedPanel New) 1200 (valueOf armContent) in lookOf p i now ≡ record { panel = p; answer = a; value = v })
@@ -148,8 +148,8 @@ messageRead p t s a =
     (record { panel = received p t s a; number = 0 })
     (refusedCall p (orElse (clockFault (p .link .clock) t) (orElse (cond (p .link .up) 0 14) (readFault (p .tiles) s a))))
 
-abbrev numberOf : CallResult → ℕ
-numberOf r = r .number
+abbrev streamFault : CallResult → ℕ
+streamFault r = r .number
 
 sent : (p : Panel) (t : ℕ) (s : List ℕ) (a : Read) → readOn (p .link) s ≡ a → messageOf p t s ≡ messageRead p t s a
 unfolding messageOf messageFault
@@ -333,7 +333,7 @@ examples =
           by-layout (λ l. PointShown (pointLinked l) l)
           (then-point New (panelAfter (pointLinked New)) refl)
           (then-point Old (panelAfter (pointLinked Old)) refl);
-      not-named = λ l. ap numberOf (sent (panelAfter (pointLinked (otherThan l))) 20 (pointBytes l) (read.refused 6 109) (samples .other-point l));
+      not-named = λ l. ap streamFault (sent (panelAfter (pointLinked (otherThan l))) 20 (pointBytes l) (read.refused 6 109) (samples .other-point l));
       refused-named =
           by-layout (λ l. PointShown (pointLinked l ++ (linkUp (otherThan l) 9 ∷ [])) l)
           (then-point New (panelAfter (pointLinked New ++ (linkUp Old 9 ∷ []))) refl)
@@ -355,10 +355,10 @@ examples =
       last-twice = refl;
       arm-early-link = ap (λ (p : Panel). linkOf true New p 1199 .number) arm-panel;
       arm-counted =
-          ap numberOf (arm-sent (linkedPanel New) 1200);
-      arm-more = ap numberOf (sent (linkedPanel New) 1200 (armBytes ++ (7 ∷ [])) armAnswer (samples .arm New .read-more));
-      arm-damaged = ap numberOf (sent (linkedPanel New) 1200 damagedBytes (read.refused 5 106) (samples .arm New .damaged));
-      arm-unknown = ap numberOf (point-sent New (linkedPanel New) 1200 refl);
+          ap streamFault (arm-sent (linkedPanel New) 1200);
+      arm-more = ap streamFault (sent (linkedPanel New) 1200 (armBytes ++ (7 ∷ [])) armAnswer (samples .arm New .read-more));
+      arm-damaged = ap streamFault (sent (linkedPanel New) 1200 damagedBytes (read.refused 5 106) (samples .arm New .damaged));
+      arm-unknown = ap streamFault (point-sent New (linkedPanel New) 1200 refl);
       arm-down = down-number;
       arm-green = arm-look 0 1700 (look-answer.Green 500) armValue refl;
       arm-grey = arm-look 0 1701 (look-answer.Grey 501) armValue refl;
@@ -373,6 +373,6 @@ examples =
       -- the look is not refused by the book, so it shows what the history says
       arm-shown = λ R.
           subst (Shown R armBytesCalls 0 1700) (ap (λ (p : Panel). answerTo p (look 0 1700)) arm-panel)
-          (demand-3 .claim R armBytesCalls (tt, (tt, (book-theorems .calls .1 .1 .0, tt))) .after 0 1700 .acceptance
-          (ap (λ (b : Summary). numberOn R b (look 0 1700)) (book-theorems .on-books R .arm)));
+          (demand-3 .claim R armBytesCalls (tt, (tt, (book-examples .calls .1 .1 .0, tt))) .after 0 1700 .acceptance
+          (ap (λ (b : Summary). faultOn R b (look 0 1700)) (book-examples .on-books R .arm)));
     }

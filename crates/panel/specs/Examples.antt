@@ -12,7 +12,7 @@ use Rattle.message.specs.declared.Layout.the-variants.{New}
 use Rattle.message.specs.Message.{Message, WellFormed, encode}
 use Rattle.message.specs.Samples.{armText, armMessage, armBytes, armContent, zeroBytes, positionBytes, pointText, pointBytes, pointContent, otherThan}
 use Rattle.message.specs.ReceivedSamples.{trackerMessage, trackerBytes}
-use Rattle.history.specs.BookTheorems.{armBytesCalls, damagedBytes}
+use Rattle.history.specs.BookExamples.{armBytesCalls, damagedBytes}
 use Rattle.history.specs.Examples.{nameOf}
 use Rattle.history.specs.Calls.{Call, add, linkUp, linkDown, message, look, Entry, green, grey, Answer, refused, accepted, added, empty, shown}
 use Rattle.history.specs.Reading.{Reader}

@@ -5,10 +5,12 @@ use mathlib.Core.List.{[], _∷_}
 use native.Mathlib.Omega.{arith}
 use Rattle.fields.specs.Lists.{flat}
 use Rattle.fields.specs.Numbers.{beVal, beBytes}
-use Rattle.fields.specs.Answer.{writtenOf, roomFault, outAfter}
+use Rattle.fields.specs.Answer.{roomFault}
+use Rattle.fields.specs.Writers.{writtenBy, outBy}
 use Rattle.pose.specs.Words.{wordBytes}
-use Rattle.pose.specs.Transform.{transformFault, transformOf, transformWritten, transformOut, ThreeWords}
-use Rattle.pose.specs.Position.{wordsIn, positionFault, positionOf, countFault, positionWritten, positionOut}
+use Rattle.pose.specs.Transform.{transformFault, transformOf}
+use Rattle.pose.specs.TransformTheorems.{ThreeWords}
+use Rattle.pose.specs.Position.{countFault, positionFault, positionOf}
 use Rattle.pose.specs.Examples.{Examples}
 
 -- a small number and the two after it
@@ -16,7 +18,7 @@ from : (n : ℕ) → n < 100 → ThreeWords (n ∷ suc n ∷ suc (suc n) ∷ [])
 from n h = record { count = refl; words = (omega arith, (omega arith, (omega arith, tt))) }
 
 pub examples : Examples
-unfolding flat beVal beBytes writtenOf roomFault outAfter wordBytes transformFault transformOf transformWritten transformOut wordsIn positionFault positionOf countFault positionWritten positionOut
+unfolding flat beVal beBytes roomFault writtenBy outBy wordBytes transformFault transformOf countFault positionFault positionOf
 examples =
     record {
       columns =

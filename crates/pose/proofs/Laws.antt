@@ -1,26 +1,32 @@
 -- The laws of words and of the two contents, which the proofs of this crate and of the crates above it cite.
-use Prim.Native.Nat.{ℕ, zero, suc, _+_, _*_, _<_, _≤_}
+use Prim.Native.Nat.{ℕ, zero, suc, _+_, _*_, _/_, _%_, _<_, _≤_}
 use mathlib.Core.Path.{_≡_, refl, sym, ap, ap₂, _∙_, subst⁻¹}
-use mathlib.Core.Bool.{Bool, cond}
+use mathlib.Core.Logic.{_⊎_, inl, inr, ⊎-elim}
+use mathlib.Core.Bool.{Bool, cond, _||_}
 use mathlib.Core.List.{List, [], _∷_, _++_, map, append-nil}
 use native.Mathlib.Omega.{arith}
 use lib.Dec.{eqb}
 use lib.ListN.{length, getD, take, replicate, length-take, length-replicate}
 use lib.Seq.{sets, take-all}
-use borrow.Author.Tests.{eqb-true, eqb-false, eq-eqb, ne-eqb}
+use borrow.Author.Tests.{eqb-true, eq-eqb, ne-eqb}
 use Rattle.fields.specs.Bytes.{Bytes}
 use Rattle.fields.specs.Lists.{flat}
 use Rattle.fields.specs.Numbers.{beVal, beBytes}
 use Rattle.fields.specs.Layout.{total, join, numbersAt, numberFields, NumbersFit}
 use Rattle.fields.proofs.Laws.Numbers.{length-beBytes, beAt-lt}
-use Rattle.fields.proofs.Laws.Checks.{cond-pass, cond-fault}
+use Rattle.fields.specs.Formats.{TwoWay}
+use Rattle.fields.specs.Checks.{orElse}
+use Rattle.fields.specs.Answer.{roomFault}
+use Rattle.fields.specs.Writers.{writerFault}
+use Rattle.fields.proofs.Laws.Checks.{cond-pass, cond-refused, or-split}
+use Rattle.fields.proofs.Laws.Formats.{two-way}
 use Rattle.fields.proofs.Laws.Lists.{length-flat}
 use Rattle.fields.proofs.Laws.Layout.{join-cut, cut-join, widths-numbers, numbers-back, numbers-front}
 use Rattle.fields.proofs.Laws.Stores.{sets-flat-next}
-use Rattle.fields.proofs.Laws.Tests.{cond-cases}
+use Rattle.fields.proofs.Laws.Tests.{by-zero, cond-cases, cond-yes}
 use Rattle.pose.specs.Words.{Words, wordBytes}
 use Rattle.pose.specs.Transform.{WellTransform, transformFault, transformAt, noTransform, transformOf}
-use Rattle.pose.specs.Position.{PositionCount, three, six, seven, WellPosition, wordsIn, positionFault, positionAt, positionOf, countFault}
+use Rattle.pose.specs.Position.{PositionCount, three, six, seven, WellPosition, isCount, countFault, positionFault, positionAt, positionOf}
 
 -- ---- words and their bytes
 
@@ -70,13 +76,6 @@ words-back n c b e =
     ∙ join-cut 0 (replicate n 4) c
     ∙ take-all (total (replicate n 4)) c (omega arith)
 
-pub words-unique : (xs ys : List ℕ) → Words xs → Words ys → wordBytes xs ≡ wordBytes ys → xs ≡ ys
-words-unique xs ys hx hy e =
-    let n : length ys ≡ length xs = omega (arith, ap length e, length-wordBytes xs, length-wordBytes ys) in
-    sym (words-read (length xs) xs refl hx)
-    ∙ ap (numbersAt 0 (replicate (length xs) 4)) e
-    ∙ words-read (length xs) ys n hy
-
 -- the loop that writes words: one more
 pub put-word : (out ws : List ℕ) (i : ℕ) → i < length ws
     → sets (sets out 0 (wordBytes (take i ws))) (4 * i) (beBytes 4 (getD ws i 0)) ≡ sets out 0 (wordBytes (take (i + 1) ws))
@@ -84,14 +83,6 @@ unfolding wordBytes
 put-word out ws i h =
     let n : 4 * i ≡ 0 + length (wordBytes (take i ws)) = omega (arith, length-wordBytes (take i ws), length-take i ws) in
     ap (λ (at : ℕ). sets (sets out 0 (wordBytes (take i ws))) at (beBytes 4 (getD ws i 0))) n ∙ sets-flat-next (beBytes 4) out 0 ws i 0 h
-
--- an array of three
-pub three-words : (xs : List ℕ) → length xs ≡ 3 → getD xs 0 0 ∷ getD xs 1 0 ∷ getD xs 2 0 ∷ [] ≡ xs
-three-words [] h = absurd (omega arith)
-three-words (x ∷ []) h = absurd (omega arith)
-three-words (x ∷ y ∷ []) h = absurd (omega arith)
-three-words (x ∷ y ∷ z ∷ []) h = refl
-three-words (x ∷ y ∷ z ∷ w ∷ xs) h = absurd (omega arith)
 
 pub words-append : (xs ys : List ℕ) → Words xs → Words ys → Words (xs ++ ys)
 words-append [] ys hx hy = hy
@@ -107,15 +98,23 @@ length-transform : (c : List ℕ) → length c ≡ 4 * 12 → transformFault c �
 unfolding transformFault
 length-transform c h = ap (λ (t : Bool). cond t 0 8) (eq-eqb (length c) _ h)
 
-pub transform-accepted : (c : List ℕ) → Bytes c → transformFault c ≡ 0 → (ws : List ℕ) × WellTransform ws × (wordBytes ws ≡ c)
-transform-accepted c b h = (
-  numbersAt 0 (replicate 12 4) c,
-  record { count = words-count 12 0 c; words = words-fit 12 0 c b },
-  words-back 12 c b (transform-length c h),
-)
-
 pub transform-well : (ws : List ℕ) → WellTransform ws → transformFault (wordBytes ws) ≡ 0
 transform-well ws h = length-transform (wordBytes ws) (omega (arith, length-wordBytes ws, h .count))
+
+transform-numbers : (c : List ℕ) → (transformFault c ≡ 0) ⊎ (transformFault c ≡ 8)
+unfolding transformFault
+transform-numbers c = by-zero (transformFault c) inl (λ n. inr (cond-refused (eqb (length c) _) _ n))
+
+pub transform-format : TwoWay WellTransform wordBytes transformFault (λ n. n ≡ 8)
+transform-format =
+    two-way WellTransform wordBytes transformFault (λ n. n ≡ 8) (numbersAt 0 (replicate 12 4))
+    (record {
+      well = λ c b h. record { count = words-count 12 0 c; words = words-fit 12 0 c b };
+      back = λ c b h. words-back 12 c b (transform-length c h);
+      accepts = transform-well;
+      decoded = λ ws h. words-read 12 ws (h .count) (h .words);
+      numbers = transform-numbers;
+    })
 
 -- the reader's answer for what is accepted
 pub transform-read : (c : List ℕ) → transformFault c ≡ 0 → transformOf c ≡ record { number = 0; transform = transformAt c }
@@ -130,96 +129,83 @@ transform-refused c h =
 
 -- ---- POSITION
 
--- the bytes of as many words as a POSITION may have hold as many
-in-words : (k : ℕ) → PositionCount k → wordsIn (4 * k) ≡ k
-unfolding wordsIn
-in-words k three = refl
-in-words k six = refl
-in-words k seven = refl
-
--- and no other bytes hold any
-abbrev Holds : ℕ → ℕ → Type 0
-Holds n k = (k ≡ 0 → ⊥) → (n ≡ 4 * k) × PositionCount k
-
-words-in : (n : ℕ) → Holds n (wordsIn n)
-unfolding wordsIn
-words-in n =
-    cond-cases (Holds n) (eqb n _) _ _ (λ e h. (eqb-true n _ e, three)) (λ _.
-    cond-cases (Holds n) (eqb n _) _ _ (λ e h. (eqb-true n _ e, six)) (λ _.
-    cond-cases (Holds n) (eqb n _) _ _ (λ e h. (eqb-true n _ e, seven)) (λ _ h. absurd (h refl))))
-
-count-some : (k : ℕ) → PositionCount k → k ≡ 0 → ⊥
-count-some k three e = omega arith
-count-some k six e = omega arith
-count-some k seven e = omega arith
-
-pub position-count : (c : List ℕ) → positionFault c ≡ 0 → (length c ≡ 4 * wordsIn (length c)) × PositionCount (wordsIn (length c))
-unfolding positionFault
-position-count c h = words-in (length c) (eqb-false (wordsIn (length c)) 0 (cond-fault (eqb (wordsIn (length c)) 0) 7 0 h .0))
-
-pub position-accepted : (c : List ℕ) → Bytes c → positionFault c ≡ 0 → (ws : List ℕ) × WellPosition ws × (wordBytes ws ≡ c)
-position-accepted c b h =
-    let n = wordsIn (length c) in
-    let k = position-count c h in (
-      numbersAt 0 (replicate n 4) c,
-      record { count = subst⁻¹ PositionCount (words-count n 0 c) (k .1); words = words-fit n 0 c b },
-      words-back n c b (k .0),
-    )
-
--- as many words are read from words' bytes as there are
-pub position-words : (ws : List ℕ) → PositionCount (length ws) → wordsIn (length (wordBytes ws)) ≡ length ws
-position-words ws h = ap wordsIn (length-wordBytes ws) ∙ in-words (length ws) h
-
-pub position-well : (ws : List ℕ) → WellPosition ws → positionFault (wordBytes ws) ≡ 0
-unfolding positionFault
-position-well ws h =
-    ap (λ (t : Bool). cond t 8 0) (ne-eqb (wordsIn (length (wordBytes ws))) 0 (λ e. count-some (length ws) (h .count) (sym (position-words ws (h .count)) ∙ e)))
-
--- the reader's answer for what is accepted
-pub position-read : (c : List ℕ) → positionFault c ≡ 0 → positionOf c ≡ record { number = 0; count = wordsIn (length c); words = positionAt c }
-unfolding positionOf
-position-read c h =
-    ap (λ (t : Bool). cond t (record { number = 0; count = wordsIn (length c); words = positionAt c }) (record { number = positionFault c; count = 0; words = replicate 7 0 })) (eq-eqb (positionFault c) 0 h)
-
-pub position-refused : (c : List ℕ) → (positionFault c ≡ 0 → ⊥) → positionOf c ≡ record { number = positionFault c; count = 0; words = replicate 7 0 }
-unfolding positionOf
-position-refused c h =
-    ap (λ (t : Bool). cond t (record { number = 0; count = wordsIn (length c); words = positionAt c }) (record { number = positionFault c; count = 0; words = replicate 7 0 })) (ne-eqb (positionFault c) 0 h)
-
--- ---- the number of words that a writer is given
-
--- check 8 passes those that a POSITION may have
+-- check 8 passes the counts that a POSITION may have
 pub count-passed : (k : ℕ) → PositionCount k → countFault k ≡ 0
 unfolding countFault
 count-passed k three = refl
 count-passed k six = refl
 count-passed k seven = refl
 
--- the reader's check 8 of the bytes of n words
-abbrev ofBytes : ℕ → ℕ
-ofBytes n = cond (eqb (wordsIn (4 * n)) 0) 8 0
-
--- no other number of words passes it
-none-in : (n : ℕ) → (n ≡ 3 → ⊥) → (n ≡ 6 → ⊥) → (n ≡ 7 → ⊥) → 8 ≡ ofBytes n
-unfolding wordsIn
-none-in n f g h =
-    sym (simp (ne-eqb (4 * n) 12 (λ e. f (omega arith)), ne-eqb (4 * n) 24 (λ e. g (omega arith)), ne-eqb (4 * n) 28 (λ e. h (omega arith))))
-
--- the writer's check 8 is the reader's
-pub count-bytes : (n : ℕ) → countFault n ≡ ofBytes n
-unfolding countFault wordsIn
-count-bytes n =
-    let Same : ℕ → Type 0 = λ k. k ≡ ofBytes n in
-    cond-cases Same (eqb n _) _ _ (λ e. sym (ap ofBytes (eqb-true n _ e))) (λ e3.
-    cond-cases Same (eqb n _) _ _ (λ e. sym (ap ofBytes (eqb-true n _ e))) (λ e6.
-    cond-cases Same (eqb n _) _ _ (λ e. sym (ap ofBytes (eqb-true n _ e))) (λ e7.
-    none-in n (eqb-false n _ e3) (eqb-false n _ e6) (eqb-false n _ e7))))
-
--- it passes few words
-pub count-few : (n : ℕ) → countFault n ≡ 0 → n ≤ 7
+-- and no others
+pub counted : (k : ℕ) → countFault k ≡ 0 → PositionCount k
 unfolding countFault
-count-few n =
-    let Few : ℕ → Type 0 = λ k. k ≡ 0 → n ≤ 7 in
-    cond-cases Few (eqb n _) _ _ (λ e h. omega (arith, eqb-true n _ e)) (λ _.
-    cond-cases Few (eqb n _) _ _ (λ e h. omega (arith, eqb-true n _ e)) (λ _.
-    cond-cases Few (eqb n _) _ _ (λ e h. omega (arith, eqb-true n _ e)) (λ _ h. absurd (omega arith))))
+counted k h =
+    ⊎-elim (λ e. subst⁻¹ PositionCount (eqb-true k _ e) three)
+    (λ r. ⊎-elim (λ e. subst⁻¹ PositionCount (eqb-true k _ e) six) (λ e. subst⁻¹ PositionCount (eqb-true k _ e) seven) (or-split (eqb k _) (eqb k _) r))
+    (or-split (eqb k _) (eqb k 6 || eqb k 7) (cond-pass (isCount k) 7 0 h .0))
+
+-- they are few
+pub count-few : (k : ℕ) → countFault k ≡ 0 → k ≤ 7
+count-few k h = few k (counted k h)
+  where
+    few : (n : ℕ) → PositionCount n → n ≤ 7
+    few n three = omega arith
+    few n six = omega arith
+    few n seven = omega arith
+
+-- the reader's check of words' bytes is the writer's of the words
+pub count-fault : (ws : List ℕ) → positionFault (wordBytes ws) ≡ countFault (length ws)
+unfolding positionFault
+count-fault ws =
+    let n = length-wordBytes ws in
+    let e : length (wordBytes ws) / 4 ≡ length ws = omega (arith, n) in
+    cond-yes (eqb (length (wordBytes ws) % 4) 0) (countFault (length (wordBytes ws) / 4)) _ (eq-eqb (length (wordBytes ws) % 4) 0 (omega (arith, n))) ∙ ap countFault e
+
+pub position-count : (c : List ℕ) → positionFault c ≡ 0 → (length c ≡ 4 * (length c / 4)) × PositionCount (length c / 4)
+unfolding positionFault
+position-count c h =
+    let k = cond-pass (eqb (length c % 4) 0) 7 (countFault (length c / 4)) h in
+    (omega (arith, eqb-true (length c % 4) 0 (k .0)), counted (length c / 4) (k .1))
+
+pub position-well : (ws : List ℕ) → WellPosition ws → positionFault (wordBytes ws) ≡ 0
+position-well ws h = count-fault ws ∙ count-passed (length ws) (h .count)
+
+-- as many words are read from words' bytes as there are
+pub words-in : (ws : List ℕ) → length (wordBytes ws) / 4 ≡ length ws
+words-in ws = omega (arith, length-wordBytes ws)
+
+position-numbers : (c : List ℕ) → (positionFault c ≡ 0) ⊎ (positionFault c ≡ 8)
+unfolding positionFault countFault
+position-numbers c =
+    cond-cases (λ (n : ℕ). (n ≡ 0) ⊎ (n ≡ 8)) (eqb (length c % 4) 0) _ _
+    (λ _. by-zero (countFault (length c / 4)) inl (λ n. inr (cond-refused (isCount (length c / 4)) _ n)))
+    (λ _. inr refl)
+
+pub position-format : TwoWay WellPosition wordBytes positionFault (λ n. n ≡ 8)
+position-format =
+    two-way WellPosition wordBytes positionFault (λ n. n ≡ 8) (λ c. numbersAt 0 (replicate (length c / 4) 4) c)
+    (record {
+      well = λ c b h.
+          record { count = subst⁻¹ PositionCount (words-count (length c / 4) 0 c) (position-count c h .1); words = words-fit (length c / 4) 0 c b };
+      back = λ c b h. words-back (length c / 4) c b (position-count c h .0);
+      accepts = position-well;
+      decoded = λ ws h. words-read (length (wordBytes ws) / 4) ws (sym (words-in ws)) (h .words);
+      numbers = position-numbers;
+    })
+
+-- the reader's answer for what is accepted
+pub position-read : (c : List ℕ) → positionFault c ≡ 0 → positionOf c ≡ record { number = 0; count = length c / 4; words = positionAt c }
+unfolding positionOf
+position-read c h =
+    ap (λ (t : Bool). cond t (record { number = 0; count = length c / 4; words = positionAt c }) (record { number = positionFault c; count = 0; words = replicate 7 0 })) (eq-eqb (positionFault c) 0 h)
+
+pub position-refused : (c : List ℕ) → (positionFault c ≡ 0 → ⊥) → positionOf c ≡ record { number = positionFault c; count = 0; words = replicate 7 0 }
+unfolding positionOf
+position-refused c h =
+    ap (λ (t : Bool). cond t (record { number = 0; count = length c / 4; words = positionAt c }) (record { number = positionFault c; count = 0; words = replicate 7 0 })) (ne-eqb (positionFault c) 0 h)
+
+-- ---- the writer's checks, as the code makes them
+
+pub position-room : (ws : List ℕ) (room : ℕ)
+    → orElse (countFault (length ws)) (roomFault (4 * length ws) room) ≡ writerFault (countFault (length ws)) (wordBytes ws) room
+position-room ws room = ap (λ (n : ℕ). orElse (countFault (length ws)) (roomFault n room)) (sym (length-wordBytes ws))

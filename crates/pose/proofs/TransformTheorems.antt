@@ -1,25 +1,25 @@
 -- What is stated of TRANSFORM, from the laws of words.
 use Prim.Native.Nat.{ℕ, _≤_}
-use mathlib.Core.Path.{_≡_, refl, sym, ap, _∙_}
+use mathlib.Core.Path.{_≡_, refl, sym, ap, ap₂, _∙_}
 use mathlib.Core.List.{List, [], _∷_, _++_, append-nil}
 use native.Mathlib.Omega.{arith}
 use lib.Dec.{eqb}
 use lib.ListN.{length, take, drop, getD, length-append}
-use lib.Seq.{take-at}
 use borrow.Author.Tests.{eqb-true}
 use Rattle.fields.specs.Bytes.{Bytes, part}
 use Rattle.fields.specs.Layout.{join, cut}
+use Rattle.fields.specs.Answer.{roomFault}
+use Rattle.fields.specs.declared.Written.the-variants.{Wrote}
 use Rattle.fields.proofs.Laws.Layout.{cut-join}
-use Rattle.fields.specs.Checks.{orElse}
-use Rattle.fields.specs.Answer.{writtenNumber, roomFault}
-use Rattle.fields.proofs.Laws.Checks.{else-second, cond-refused}
+use Rattle.fields.proofs.Laws.Checks.{else-second}
 use Rattle.fields.proofs.Laws.Tests.{cond-cases}
-use Rattle.fields.proofs.Laws.Answer.{written-wrote, written-number, out-wrote, out-refused, room-enough}
+use Rattle.fields.proofs.Laws.Writers.{writer-passes, out-front, writer-theorems}
 use Rattle.pose.specs.declared.Transform.{Transform}
 use Rattle.pose.specs.declared.TransformRead.{TransformRead}
 use Rattle.pose.specs.Words.{wordBytes}
-use Rattle.pose.specs.Transform.{WellTransform, IsTransform, transformFault, transformAt, transformOf, transformWords, transformWritten, transformOut, Columns, TransformTheorems}
-use Rattle.pose.proofs.Laws.{length-wordBytes, words-read, words-back, words-unique, words-append, transform-length, transform-accepted, transform-well, transform-read, transform-refused}
+use Rattle.pose.specs.Transform.{WellTransform, transformFault, transformAt, transformOf, transformWords, transformBytes, transformWritten, transformOut}
+use Rattle.pose.specs.TransformTheorems.{Columns, TransformTheorems}
+use Rattle.pose.proofs.Laws.{length-wordBytes, words-read, words-back, words-append, transform-length, transform-well, transform-format, transform-read, transform-refused}
 
 answered : (c : List ℕ) → transformOf c .number ≡ transformFault c
 unfolding transformOf
@@ -37,19 +37,6 @@ handed : (c : List ℕ) → Bytes c → transformFault c ≡ 0 → wordBytes (tr
 handed c b h =
     ap (λ (r : TransformRead). wordBytes (transformWords (r .transform))) (transform-read c h)
     ∙ words-back 12 c b (transform-length c h)
-
--- with room: the words' bytes, and what stood behind them
-out-with-room : (t : Transform) (out : List ℕ) → 48 ≤ length out
-    → transformOut t out ≡ wordBytes (transformWords t) ++ drop (length (wordBytes (transformWords t))) out
-unfolding transformOut
-out-with-room t out h = out-wrote _ (wordBytes (transformWords t)) out (room-enough _ (length out) h)
-
-written-back : (c out : List ℕ) → Bytes c → transformFault c ≡ 0 → 48 ≤ length out
-    → transformOut (transformOf c .transform) out ≡ c ++ drop 48 out
-written-back c out b h k =
-    out-with-room (transformOf c .transform) out k
-    ∙ ap (λ (s : List ℕ). s ++ drop (length s) out) (handed c b h)
-    ∙ ap (λ (n : ℕ). c ++ drop n out) (transform-length c h)
 
 -- ---- what is written, read again
 
@@ -91,45 +78,42 @@ columns-back t h =
     ap (λ (l : List (List ℕ)). record { column1 = getD l 0 []; column2 = getD l 1 []; column3 = getD l 2 []; translation = getD l 3 [] })
     (columns-cut t h)
 
+width : (t : Transform) → Columns t → length (transformBytes t) ≡ 48
+width t h = omega (arith, length-wordBytes (transformWords t), well-columns t h .count)
+
 read-back : (t : Transform) (out : List ℕ) → Columns t → 48 ≤ length out
     → transformOf (take 48 (transformOut t out)) ≡ record { number = 0; transform = t }
 read-back t out h k =
     let w = well-columns t h in
-    let s = wordBytes (transformWords t) in
-    let n : length s ≡ 48 = omega (arith, length-wordBytes (transformWords t), w .count) in
+    let s = transformBytes t in
     let e : transformAt s ≡ t = ap withWords (words-read 12 (transformWords t) (w .count) (w .words)) ∙ columns-back t h in
-    ap (λ (l : List ℕ). transformOf (take 48 l)) (out-with-room t out k)
-    ∙ ap transformOf (take-at s (drop (length s) out) 48 n)
+    ap transformOf (out-front 0 s out 48 (width t h) (writer-passes 0 s (length out) refl (omega (arith, width t h, k))))
     ∙ transform-read s (transform-well (transformWords t) w)
     ∙ ap (λ (x : Transform). record { number = 0; transform = x }) e
 
-refused : (c : List ℕ) → Bytes c → (IsTransform c → ⊥) → transformFault c ≡ 8
-unfolding transformFault
-refused c b n = cond-refused (eqb (length c) _) _ (λ z. n (transform-accepted c b z))
-
-number : (t : Transform) (room : ℕ) → Columns t
-    → writtenNumber (transformWritten room) ≡ orElse (transformFault (wordBytes (transformWords t))) (roomFault 48 room)
-unfolding transformWritten
-number t room h = written-number _ _ ∙ sym (else-second _ _ (transform-well (transformWords t) (well-columns t h)))
-
-untouched : (t : Transform) (out : List ℕ) → (writtenNumber (transformWritten (length out)) ≡ 0 → ⊥) → transformOut t out ≡ out
-unfolding transformWritten transformOut
-untouched t out h = out-refused _ _ out (λ z. h (written-number _ _ ∙ z))
+written-back : (c out : List ℕ) → Bytes c → transformFault c ≡ 0 → 48 ≤ length out
+    → (transformWritten (transformOf c .transform) (length out) ≡ Wrote 48) × (transformOut (transformOf c .transform) out ≡ c ++ drop 48 out)
+written-back c out b h k =
+    let s = transformBytes (transformOf c .transform) in
+    let e : s ≡ c = handed c b h in
+    let n : length s ≡ 48 = ap length e ∙ transform-length c h in (
+      writer-theorems 0 s .wrote (length out) refl (omega arith) ∙ ap Wrote n,
+      writer-theorems 0 s .buffer out refl (omega arith) ∙ ap₂ (λ (l : List ℕ) (m : ℕ). l ++ drop m out) e n,
+    )
 
 pub transform-theorems : TransformTheorems
-unfolding transformWritten
 transform-theorems =
     record {
-      accepted = transform-accepted;
-      refused = refused;
-      well = transform-well;
-      unique = λ ws vs h k e. words-unique ws vs (h .words) (k .words) e;
+      two-way = transform-format;
       answered = answered;
       read = read;
       handed = handed;
       no-words = transform-refused;
-      written-back = λ c out b h k. (written-wrote _ _ (room-enough _ (length out) k), written-back c out b h k);
+      width = width;
+      written-back = written-back;
       read-back = read-back;
-      number = number;
-      untouched = untouched;
+      number = λ t room h.
+          writer-theorems 0 (transformBytes t) .number room ∙ sym (else-second _ (roomFault (length (transformBytes t)) room) (transform-well (transformWords t) (well-columns t h)));
+      promised = λ t out left answer p. (p .written, p .buffer);
+      untouched = λ t out. writer-theorems 0 (transformBytes t) .untouched out;
     }

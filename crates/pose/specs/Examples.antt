@@ -1,12 +1,12 @@
--- ContentTheorems given byte by byte, and the words in them: the order of the words is fixed here, the lengths, and what a refusal hands out.
+-- Contents given byte by byte, and the words in them: the order of the words is fixed here, the lengths, and what a refusal hands out.
 use Prim.Native.Nat.{ℕ}
 use mathlib.Core.Path.{_≡_}
 use mathlib.Core.List.{List, [], _∷_, _++_, map}
 use lib.ListN.{take, replicate}
-use Rattle.fields.specs.declared.Written.{Written}
 use Rattle.fields.specs.declared.Written.the-variants.{Wrote, Refused}
 use Rattle.pose.specs.declared.Transform.{Transform}
-use Rattle.pose.specs.Transform.{transformFault, transformOf, transformWritten, transformOut, Columns}
+use Rattle.pose.specs.Transform.{transformFault, transformOf, transformWritten, transformOut}
+use Rattle.pose.specs.TransformTheorems.{Columns}
 use Rattle.pose.specs.Position.{positionFault, positionOf, positionWritten, positionOut}
 
 -- the bytes of the words 1 to 12
@@ -37,7 +37,7 @@ pub record Examples : Type 0 where
   pub columns : Columns inColumns
   -- a TRANSFORM: read, written, with one byte less, with one more, with all bits set, into one byte less
   pub read : transformOf twelveWords ≡ record { number = 0; transform = inColumns }
-  pub wrote : transformWritten 50 ≡ Wrote 48
+  pub wrote : transformWritten inColumns 50 ≡ Wrote 48
   pub written : transformOut inColumns (replicate 50 5) ≡ twelveWords ++ (5 ∷ 5 ∷ [])
   pub short : transformOf (take 47 twelveWords) ≡ record { number = 8; transform = zeros }
   pub long : transformOf (twelveWords ++ (0 ∷ [])) ≡ record { number = 8; transform = zeros }
@@ -52,7 +52,7 @@ pub record Examples : Type 0 where
               translation = replicate 3 0xFFFFFFFF;
             };
       }
-  pub no-room : transformWritten 47 ≡ Refused 20
+  pub no-room : transformWritten inColumns 47 ≡ Refused 20
   -- a POSITION of 12, 24 and 28 bytes, and of 13
   pub position-12 : positionOf anyBits ≡ record { number = 0; count = 3; words = 0x80000000 ∷ 0x7FC00001 ∷ 0xFFFFFFFF ∷ 0 ∷ 0 ∷ 0 ∷ 0 ∷ [] }
   pub position-24 : positionOf (take 24 twelveWords) ≡ record { number = 0; count = 6; words = 1 ∷ 2 ∷ 3 ∷ 4 ∷ 5 ∷ 6 ∷ 0 ∷ [] }

@@ -3,4 +3,6 @@
 pub mod Words
 pub mod Transform
 pub mod Position
+pub mod TransformTheorems
+pub mod PositionTheorems
 pub mod Examples

@@ -1,15 +1,18 @@
 // TRANSFORM and POSITION contents (rules 4.2 to 4.4). A float is a u32 word, the number that its bits spell; nothing is computed with it.
+use fields::number::words3;
 ghost use mathlib.Core.Path.{_≡_};
-ghost use mathlib.Core.List.{[], _∷_, _++_};
+ghost use mathlib.Core.List.{_++_};
 ghost use Prim.Native.Nat.{_*_, _≤_};
 ghost use lib.ListN.{length};
 ghost use lib.Seq.{sets};
-ghost use Rattle.fields.specs.Numbers.{beAt};
 ghost use Rattle.fields.specs.Checks.{orElse};
 ghost use Rattle.fields.specs.Answer.{roomFault};
 ghost use Rattle.pose.specs.Words.{wordBytes};
-ghost use Rattle.pose.specs.Transform.{transformFault, transformOf, transformWritten, transformOut};
-ghost use Rattle.pose.specs.Position.{wordsIn, positionFault, positionOf, countFault, positionWritten, positionOut};
+ghost use Rattle.pose.specs.Transform.{transformFault, transformOf, transformBytes, TransformPromise};
+ghost use Rattle.pose.specs.Position.{countFault, positionFault, positionOf, PositionPromise};
+
+// The bytes of a TRANSFORM (rule 4.2).
+pub const TRANSFORM_SIZE: usize = 48;
 
 // The three columns of the rotation, each from its first row to its third; the translation (rule 4.2).
 pub struct Transform {
@@ -32,22 +35,15 @@ pub struct PositionRead {
     pub words: [u32; 7],
 }
 
-// The words at three places.
-fn three(content: &[u8], a: usize, b: usize, c: usize) -> [u32; 3]
-    ensures { λ r. ⌜ r ≡ beAt 4 a (now (content .entry)) ∷ beAt 4 b (now (content .entry)) ∷ beAt 4 c (now (content .entry)) ∷ [] ⌝ }
-{
-    [
-        fields::number::be32(content, a),
-        fields::number::be32(content, b),
-        fields::number::be32(content, c),
-    ]
-}
-
 // 8 where it has another length than 48.
 pub fn transform_fault(content: &[u8]) -> u8
     ensures { λ r. ⌜ r ≡ transformFault (now (content .entry)) ⌝ }
 {
-    if content.len() == 48 { 0 } else { 8 }
+    if content.len() == TRANSFORM_SIZE {
+        0
+    } else {
+        8
+    }
 }
 
 // Column by column: the entry in row i and column j, both from 0, is word 3j + i. All words are 0 where it is refused.
@@ -68,10 +64,10 @@ pub fn read_transform(content: &[u8]) -> TransformRead
             transform: none,
         };
     }
-    let column1 = three(content, 0, 4, 8);
-    let column2 = three(content, 12, 16, 20);
-    let column3 = three(content, 24, 28, 32);
-    let translation = three(content, 36, 40, 44);
+    let column1 = words3(content, 0);
+    let column2 = words3(content, 12);
+    let column3 = words3(content, 24);
+    let translation = words3(content, 36);
     let transform = Transform {
         column1,
         column2,
@@ -123,39 +119,45 @@ fn put_words(words: &[u32], out: &mut [u8])
 
 // Writes 48 bytes. Its only refusal is 20.
 pub fn write_transform(transform: Transform, out: &mut [u8]) -> fields::Written
-    ensures answer { λ r. ⌜ r ≡ transformWritten (length (now (out .entry))) ⌝ }
-    ensures bytes { λ _. ⌜ now (out .exit) ≡ transformOut transform (now (out .entry)) ⌝ }
+    ensures { λ r. ⌜ TransformPromise transform (now (out .entry)) r (now (out .exit)) ⌝ }
 {
-    let short = fields::room_fault(48, out.len());
-    if short != 0 {
-        return fields::Written::Refused(short);
-    }
     let column1 = transform.column1;
     let column2 = transform.column2;
     let column3 = transform.column3;
     let translation = transform.translation;
     let words = twelve(column1, column2, column3, translation);
+    let short = fields::room_fault(TRANSFORM_SIZE, out.len());
+    if short != 0 {
+        return fields::Written::Refused(short);
+    }
     put_words(&words, out);
-    fields::Written::Wrote(48)
+    fields::Written::Wrote(TRANSFORM_SIZE)
 }
 
-// How many words a POSITION of so many bytes has; 0 where it is none.
-fn words_in(n: usize) -> usize
-    ensures { λ r. ⌜ r ≡ wordsIn n ⌝ }
+// 8 where a POSITION has not so many words.
+fn count_fault(n: usize) -> u8
+    ensures { λ r. ⌜ r ≡ countFault n ⌝ }
 {
-    match n {
-        12 => 3,
-        24 => 6,
-        28 => 7,
-        _ => 0,
+    if n == 3 {
+        return 0;
     }
+    if n == 6 {
+        return 0;
+    }
+    if n == 7 {
+        return 0;
+    }
+    8
 }
 
 // 8 where it has another length than 12, 24 and 28.
 pub fn position_fault(content: &[u8]) -> u8
     ensures { λ r. ⌜ r ≡ positionFault (now (content .entry)) ⌝ }
 {
-    if words_in(content.len()) == 0 { 8 } else { 0 }
+    if content.len() % 4 != 0 {
+        return 8;
+    }
+    count_fault(content.len() / 4)
 }
 
 // Seven words are read: those past the end of the content are 0.
@@ -179,28 +181,11 @@ pub fn read_position(content: &[u8]) -> PositionRead
         fields::number::be32(content, 20),
         fields::number::be32(content, 24),
     ];
-    let count = words_in(content.len());
     PositionRead {
         number: 0,
-        count,
+        count: content.len() / 4,
         words,
     }
-}
-
-// 8 where a POSITION has not so many words.
-fn count_fault(n: usize) -> u8
-    ensures { λ r. ⌜ r ≡ countFault n ⌝ }
-{
-    if n == 3 {
-        return 0;
-    }
-    if n == 6 {
-        return 0;
-    }
-    if n == 7 {
-        return 0;
-    }
-    8
 }
 
 // The writer's checks for n words: 8, then 20.
@@ -216,8 +201,7 @@ fn write_fault(n: usize, room: usize) -> u8
 
 // Writes 3, 6 or 7 words; any other number of them is 8, and then 20 is checked.
 pub fn write_position(words: &[u32], out: &mut [u8]) -> fields::Written
-    ensures answer { λ r. ⌜ r ≡ positionWritten (now (words .entry)) (length (now (out .entry))) ⌝ }
-    ensures bytes { λ _. ⌜ now (out .exit) ≡ positionOut (now (words .entry)) (now (out .entry)) ⌝ }
+    ensures { λ r. ⌜ PositionPromise (now (words .entry)) (now (out .entry)) r (now (out .exit)) ⌝ }
 {
     let fault = write_fault(words.len(), out.len());
     if fault != 0 {

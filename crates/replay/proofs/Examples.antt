@@ -17,7 +17,7 @@ use Rattle.panel.specs.declared.LookAnswer.{LookAnswer}
 use Rattle.panel.specs.declared.LookResult.{LookResult}
 use Rattle.panel.specs.Calls.{addOf, addFault, linkOf, lookOf}
 use Rattle.panel.specs.Demand3.{panelNext, panelAfter}
-use Rattle.history.specs.BookTheorems.{armBytesCalls}
+use Rattle.history.specs.BookExamples.{armBytesCalls}
 use Rattle.panel.specs.Examples.{ArmLook, armValue, zeroValue}
 use Rattle.panel.proofs.Laws.Demand3.{demand-3}
 use Rattle.panel.proofs.Examples as panel

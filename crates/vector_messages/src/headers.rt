@@ -1,7 +1,6 @@
 // What the readers of headers answer:
 //
-//   H stream   the header's number and fields, its CRC as 16 hexadecimal digits, and its mark; the type and the device name, of a refused
-//              header too
+//   H stream   the header's number and fields, its CRC as 16 hexadecimal digits, and its mark; the type and the device name
 //   s stamp    the seconds and the nanoseconds of a time stamp of eight bytes
 use vector_records::print_bytes;
 use vector_records::print_crc;
@@ -18,8 +17,8 @@ pub fn print_header(stream: &[u8]) {
     print_number(read.body_size as u64);
     print_crc(read.crc);
     print_mark(read.clean);
-    print_bytes(header::type_text(stream));
-    print_bytes(header::device_name(stream));
+    print_bytes(header::type_text(stream, read));
+    print_bytes(header::device_name(stream, read));
 }
 
 pub fn print_stamp(stamp: &[u8]) {

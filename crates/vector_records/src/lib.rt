@@ -45,6 +45,14 @@ pub fn buffer(fill: u8) -> [u8; 1376256]
     [fill; 1376256]
 }
 
+// Room for a longer input. `vectors` has it and four more buffers on its stack, which is 8 MiB.
+pub fn long_buffer(fill: u8) -> [u8; 2097152]
+    ensures bytes { λ r. ⌜ r ≡ replicate 2097152 fill ⌝ }
+    ensures size { λ r. ⌜ 2097152 ≡ length r ⌝ }
+{
+    [fill; 2097152]
+}
+
 // Stores two bytes at each of some places: patches are runs of six bytes, the place in four and what is stored in two.
 pub fn patch(patches: &[u8], out: &mut [u8])
     ensures { λ _. ⌜ now (out .exit) ≡ patched (now (patches .entry)) (now (out .entry)) ⌝ }

@@ -13,6 +13,8 @@ use fields::Written;
 use fields::number::be8;
 use fields::number::be16;
 use fields::number::be32;
+use fields::number::halves3;
+use fields::number::words3;
 use image::ImageHeader;
 use pose::Transform;
 use vector_records::after_field;
@@ -21,22 +23,12 @@ use vector_records::print_bytes;
 use vector_records::print_crc;
 use vector_records::print_written;
 
-fn words(s: &[u8], at: usize) -> [u32; 3] {
-    let t = fields::slice::rest(s, at);
-    [be32(t, 0), be32(t, 4), be32(t, 8)]
-}
-
-fn sizes(s: &[u8], at: usize) -> [u16; 3] {
-    let t = fields::slice::rest(s, at);
-    [be16(t, 0), be16(t, 2), be16(t, 4)]
-}
-
 fn write_transform(given: &[u8], out: &mut [u8]) -> Written {
     let s = field(given);
-    let column1 = words(s, 0);
-    let column2 = words(s, 12);
-    let column3 = words(s, 24);
-    let translation = words(s, 36);
+    let column1 = words3(s, 0);
+    let column2 = words3(s, 12);
+    let column3 = words3(s, 24);
+    let translation = words3(s, 36);
     let transform = Transform {
         column1: column1,
         column2: column2,
@@ -53,10 +45,10 @@ fn first_words(words: &[u32], n: usize) -> &[u32] {
 
 fn write_position(given: &[u8], out: &mut [u8]) -> Written {
     let s = field(given);
-    let a = words(s, 0);
-    let b = words(s, 12);
-    let c = words(s, 24);
-    let d = words(s, 36);
+    let a = words3(s, 0);
+    let b = words3(s, 12);
+    let c = words3(s, 24);
+    let d = words3(s, 36);
     let all = [
         a[0],
         a[1],
@@ -75,13 +67,13 @@ fn write_position(given: &[u8], out: &mut [u8]) -> Written {
 }
 
 fn header(s: &[u8]) -> ImageHeader {
-    let size = sizes(s, 6);
-    let axis_i = words(s, 12);
-    let axis_j = words(s, 24);
-    let axis_k = words(s, 36);
-    let centre = words(s, 48);
-    let offset = sizes(s, 60);
-    let sub_size = sizes(s, 66);
+    let size = halves3(s, 6);
+    let axis_i = words3(s, 12);
+    let axis_j = words3(s, 24);
+    let axis_k = words3(s, 36);
+    let centre = words3(s, 48);
+    let offset = halves3(s, 60);
+    let sub_size = halves3(s, 66);
     ImageHeader {
         version: be16(s, 0),
         components: be8(s, 2),

@@ -1,7 +1,8 @@
 // What look-ups of a BIND's children answer:
 //
-//   L content, index, name           the count; the type, the name and the place of the child of that
-//                                    index; the place of the child of that name
+//   L content, index, name           the count; the number by itself, the type, the name and the place of
+//                                    the child of that index; the number by itself and the place of the
+//                                    child of that name
 //   M length, patches, index, name   the same for a content of so many zeros, patched
 //   E site, default, name            the number and the bundle of the child of that name, and its place
 //
@@ -38,6 +39,7 @@ fn print_count(content: &[u8]) {
 }
 
 fn print_child(content: &[u8], index: usize) {
+    print_number(bind_lookup::child_fault(content, index) as u64);
     print_bytes(bind_lookup::child_type(content, index));
     print_bytes(bind_lookup::child_name(content, index));
     print_place(bind_lookup::child_place(content, index));
@@ -45,6 +47,7 @@ fn print_child(content: &[u8], index: usize) {
 }
 
 fn print_named(content: &[u8], name: &[u8]) {
+    print_number(bind_lookup::named_fault(content, name) as u64);
     print_place(bind_lookup::named_place(content, name));
     print_bytes(bind_lookup::named(content, name));
 }

@@ -4,6 +4,7 @@
 mod children;
 mod contents;
 mod crc;
+mod cursors;
 
 use libc::STDIN_FILENO;
 use vector_messages::headers;
@@ -30,6 +31,8 @@ fn print_answer(record: &[u8]) {
         b'L' => children::print_lookups(field(first), second),
         b'M' => children::print_patched(field(first), field(second), third),
         b'E' => children::print_either(field(first), field(second), field(third)),
+        b'F' => cursors::print_walk(field(first)),
+        b'N' => cursors::print_next(field(first), field(second)),
         b'H' => headers::print_header(field(first)),
         b's' => headers::print_stamp(field(first)),
         b'D' => values::print_value(field(first), field(second)),
@@ -56,7 +59,7 @@ fn print_answers(records: &[u8]) {
 }
 
 fn main() {
-    let mut buffer = vector_records::buffer(0);
+    let mut buffer = vector_records::long_buffer(0);
     let n = io::read_full(STDIN_FILENO, &mut buffer);
     print_answers(&buffer[..n]);
 }

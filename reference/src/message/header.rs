@@ -60,13 +60,6 @@ impl<'a> Header<'a> {
         )
     }
 
-    /// The bytes before the first 0 in TYPE and in DEVICE_NAME, whatever they are; of a short stream
-    /// as many of them as there are.
-    pub fn texts(stream: &[u8]) -> [&[u8]; 2] {
-        let inside = |place: usize| place.min(stream.len());
-        [2..14, 14..34].map(|field| text::in_field(&stream[inside(field.start)..inside(field.end)]))
-    }
-
     fn take_apart(bytes: &'a [u8]) -> Option<Self> {
         let mut cursor = Cursor::new(bytes);
         Some(Header {
@@ -116,16 +109,6 @@ mod tests {
             assert_eq!(Header::parse(&bytes), Ok(arm()));
             assert!(!arm().is_clean(&bytes));
         }
-    }
-
-    #[test]
-    fn the_texts_are_those_of_a_refused_header_too() {
-        let mut bytes = arm().encode().unwrap();
-        bytes[15] = 0xFF;
-        assert_eq!(Header::texts(&bytes), [b"TWELVE_BYTES", &b"A\xFFm"[..]]);
-        assert_eq!(Header::texts(&bytes[..15]), [b"TWELVE_BYTES", &b"A"[..]]);
-        assert_eq!(Header::texts(&bytes[..8]), [&b"TWELVE"[..], b""]);
-        assert_eq!(Header::texts(&bytes[..1]), [b"", b""]);
     }
 
     #[test]

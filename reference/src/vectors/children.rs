@@ -1,11 +1,11 @@
-//! Cases of children: look-ups by number and by name, in one bundle and in two.
+//! Cases of children: look-ups by index and by name, in one bundle and in two.
 
 use super::bundles::{bundle, nest, part, samples, sound, EMPTY};
 use super::case::Case;
 use super::patched::Patched;
 use super::trees;
 use crate::fault::{number, Fault};
-use crate::lookup::{by_name, by_number, count, either, Found, Source};
+use crate::lookup::{by_name, by_index, count, either, Found, Source};
 use crate::random::Random;
 
 const SEED: u64 = 3;
@@ -33,7 +33,7 @@ pub fn lookup_case(content: &[u8], index: u64, name: &[u8]) -> Case {
 
 fn answered(case: Case, content: &[u8], index: u64, name: &[u8]) -> Case {
     let counted = count(content);
-    let numbered = by_number(content, index);
+    let numbered = by_index(content, index);
     let named = by_name(content, name);
     let text = |text: fn(&Found) -> Vec<u8>| numbered.as_ref().map_or(Vec::new(), text);
     let case = case
@@ -42,9 +42,11 @@ fn answered(case: Case, content: &[u8], index: u64, name: &[u8]) -> Case {
         .number(number(&counted))
         .number(counted.unwrap_or_default().children)
         .mark(counted.unwrap_or_default().clean)
+        .number(number(&numbered))
         .bytes(&text(|found| found.child.type_text.to_vec()))
         .bytes(&text(|found| found.child.name.to_vec()));
-    placed(placed(case, &numbered), &named)
+    let case = placed(case, &numbered).number(number(&named));
+    placed(case, &named)
 }
 
 /// The number, the place, the mark and the bytes of a child; nothing of it where refused.

@@ -46,7 +46,6 @@ pub fn header_case(stream: &[u8]) -> Case {
     let answer = number(&header);
     let clean = header.is_ok_and(|header| header.is_clean(stream));
     let header = header.unwrap_or_default();
-    let [type_text, device_name] = Header::texts(stream);
     Case::of_kind('H')
         .given(stream)
         .number(answer)
@@ -55,8 +54,8 @@ pub fn header_case(stream: &[u8]) -> Case {
         .numbers([header.time_stamp, header.body_size])
         .bytes(&header.crc.to_be_bytes())
         .mark(clean)
-        .bytes(type_text)
-        .bytes(device_name)
+        .bytes(header.type_text)
+        .bytes(header.device_name)
 }
 
 fn read_headers(random: &mut Random) -> Vec<Case> {

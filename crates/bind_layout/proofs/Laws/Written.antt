@@ -1,101 +1,30 @@
 -- What is written from children: its parts are those of the children, its layout is accepted, and it is read back as them.
-use mathlib.Core.Path.{_≡_, refl, sym, ap, ap₂, _∙_}
-use mathlib.Core.Bool.{Bool, true, cond, _&&_}
+use mathlib.Core.Path.{_≡_, refl, sym, ap, ap₂, subst, _∙_}
+use mathlib.Core.Bool.{Bool, true, cond}
 use mathlib.Core.List.{List, [], _∷_, _++_, append-nil, append-assoc}
-use Prim.Native.Nat.{ℕ, suc, _+_, _*_, _%_, _≤_, _<_}
+use Prim.Native.Nat.{ℕ, _+_, _*_, _%_, _≤_}
 use native.Mathlib.Omega.{arith}
 use lib.ListN.{length, take, drop, replicate, length-append, length-replicate}
 use lib.Seq.{take-at, drop-at, drop-drop}
-use borrow.Author.Tests.{eq-eqb, le-leb, lt-ltb}
-use Rattle.fields.specs.Lists.{Each, flat}
+use borrow.Author.Tests.{eq-eqb, le-leb}
+use Rattle.fields.specs.Lists.{flat}
 use Rattle.fields.specs.Numbers.{beVal, beBytes}
-use Rattle.fields.specs.Text.{isText, textOf, pastText, allZero, textOk}
 use Rattle.fields.proofs.Laws.Checks.{and-join}
-use Rattle.fields.proofs.Laws.Lists.{flat-cons, length-flat}
+use Rattle.fields.proofs.Laws.Lists.{length-flat}
 use Rattle.fields.proofs.Laws.Numbers.{length-beBytes, beVal-beBytes}
-use Rattle.fields.proofs.Laws.Text.{text-is, all-zeros}
-use Rattle.bind_layout.specs.Children.{Child, padded, childHeader, childName, childData, nameTable, encodeChildren, WellChild, WellBundle}
-use Rattle.bind_layout.specs.BindLayout.{childCount, headers, afterHeaders, tableSize, tableOf, dataOf, sizeOf, afterBlock, typesOk, nameOk, namesOk, tableOk, blockOk, dataOk, layoutOk, layoutFault}
-use Rattle.bind_layout.proofs.Laws.Children.{childrenFrom, childrenOf, length-childHeader, header-ok, header-type, header-mark, header-size, header-rest, name-text, name-rest, block-data, block-rest, block-ok}
+use Rattle.fields.proofs.Laws.Tables.{itemsFrom, puts, puts-run, counted-count, counted-headers, length-counted, counted-number, counted-after, counted-written}
+use Rattle.fields.proofs.Laws.Text.{all-zeros}
+use Rattle.bind_layout.specs.Children.{Child, padded, childHeader, childName, childData, nameTable, encodeChildren, WellBundle}
+use Rattle.bind_layout.specs.BindLayout.{childCount, headers, afterHeaders, tableSize, tableOf, dataOf, typesOk, namesOk, tableOk, dataOk, layoutOk, layoutFault}
+use Rattle.bind_layout.proofs.Laws.Children.{length-childHeader, length-padded, childItems, WalksPass, child-laws, childrenFrom, childrenOf}
 
 pub length-headers : (cs : List Child) → length (flat childHeader cs) ≡ 20 * length cs
 length-headers cs = length-flat childHeader 20 length-childHeader cs
-
-padded-even : (x : List ℕ) → length (padded x) % 2 ≡ 0
-unfolding padded
-padded-even x = omega (arith, length-append x (replicate (length x % 2) 0), length-replicate {A = ℕ} (length x % 2) 0)
-
--- ---- each walk, over what the children are written as and further bytes r
-
-module _ (cs : List Child) (c : Child) (w : WellChild c) (r : List ℕ) where
-  name-ok : nameOk (flat childName (c ∷ cs) ++ r) ≡ true
-  unfolding nameOk textOk childName
-  name-ok =
-      let l = flat childName cs ++ r in
-      let e = flat-cons childName c cs r in
-      let n = name-text c w l in
-      let a = length-append (childName c) l in
-      let b = length-append (c .name) (0 ∷ []) in
-      let q = ap length n in
-      let h : length (textOf (childName c ++ l)) < length (childName c ++ l) = omega arith in
-      ap nameOk e ∙ and-join _ _ (lt-ltb _ _ h) (ap (λ (x : List ℕ). isText x) n ∙ text-is (c .name) (w .name-text))
-
-types-written : (cs : List Child) → Each WellChild cs → (r : List ℕ) → typesOk (length cs) (flat childHeader cs ++ r) ≡ true
-unfolding typesOk
-types-written [] w r = refl
-types-written (c ∷ cs) w r =
-    let l = flat childHeader cs ++ r in
-    ap (λ (h : List ℕ). textOk (take 12 h) && typesOk (length cs) (drop 20 h)) (flat-cons childHeader c cs r)
-    ∙ and-join _ _ (header-ok c l (w .0)) (ap (typesOk (length cs)) (header-rest c l) ∙ types-written cs (w .1) r)
-
-names-written : (cs : List Child) → Each WellChild cs → (r : List ℕ) → length r ≤ 1 → allZero r ≡ true → namesOk (length cs) (flat childName cs ++ r) ≡ true
-unfolding namesOk flat
-names-written [] w r h z = and-join _ _ (le-leb (length r) _ h) z
-names-written (c ∷ cs) w r h z =
-    and-join _ _ (name-ok cs c (w .0) r)
-    (ap (λ (t : List ℕ). namesOk (length cs) (pastText t)) (flat-cons childName c cs r)
-    ∙ ap (namesOk (length cs)) (name-rest c (w .0) (flat childName cs ++ r))
-    ∙ names-written cs (w .1) r h z)
 
 -- the first child's data in front of the others'
 pub data-front : (c : Child) (cs : List Child) → flat childData (c ∷ cs) ≡ padded (c .content) ++ flat childData cs
 unfolding flat childData
 data-front c cs = refl
-
-child-eq : {t u o v n m x y : List ℕ} → t ≡ u → o ≡ v → n ≡ m → x ≡ y
-    → _≡_ {A = Child} (record { typeText = t; rest = o; name = n; content = x }) (record { typeText = u; rest = v; name = m; content = y })
-child-eq p o q r = λ i. record { typeText = p i; rest = o i; name = q i; content = r i }
-
-data-written : (cs : List Child) → Each WellChild cs → (r : List ℕ) → dataOk (length cs) (flat childHeader cs ++ r) (flat childData cs) ≡ true
-unfolding dataOk flat
-data-written [] w r = refl
-data-written (c ∷ cs) w r =
-    let l = flat childHeader cs ++ r in
-    let d = flat childData (c ∷ cs) in
-    let s = header-size c l (w .0) in
-    let k = data-front c cs in
-    ap (λ (h : List ℕ). blockOk (sizeOf h) d && dataOk (length cs) (drop 20 h) (afterBlock (sizeOf h) d)) (flat-cons childHeader c cs r)
-    ∙ ap₂ (λ (n : ℕ) (x : List ℕ). blockOk n d && dataOk (length cs) x (afterBlock n d)) s (header-rest c l)
-    ∙ ap (λ (x : List ℕ). blockOk (length (c .content)) x && dataOk (length cs) l (afterBlock (length (c .content)) x)) k
-    ∙ and-join _ _ (block-ok (c .content) (flat childData cs))
-    (ap (dataOk (length cs) l) (block-rest (c .content) (flat childData cs)) ∙ data-written cs (w .1) r)
-
--- what is written is read back
-read-back : (cs : List Child) → Each WellChild cs → (r p : List ℕ)
-    → childrenFrom (length cs) (flat childHeader cs ++ r) (flat childName cs ++ p) (flat childData cs) ≡ cs
-unfolding childrenFrom
-read-back [] w r p = refl
-read-back (c ∷ cs) w r p =
-    let l = flat childHeader cs ++ r in
-    let t = flat childName cs ++ p in
-    let d = flat childData cs in
-    ap₂ (λ (x y : List ℕ). childrenFrom (suc (length cs)) x y (flat childData (c ∷ cs))) (flat-cons childHeader c cs r) (flat-cons childName c cs p)
-    ∙ ap (childrenFrom (suc (length cs)) (childHeader c ++ l) (childName c ++ t)) (data-front c cs)
-    ∙ ap₂ {C = List Child} (λ x xs. x ∷ xs)
-    (child-eq (header-type c l (w .0)) (header-mark c l (w .0)) (name-text c (w .0) t) (ap (λ (n : ℕ). take n (padded (c .content) ++ d)) (header-size c l (w .0)) ∙ block-data (c .content) d))
-    (ap₂ (λ (x y : List ℕ). childrenFrom (length cs) x y (afterBlock (sizeOf (childHeader c ++ l)) (padded (c .content) ++ d))) (header-rest c l) (name-rest c (w .0) t)
-    ∙ ap (childrenFrom (length cs) l t) (ap (λ (n : ℕ). afterBlock n (padded (c .content) ++ d)) (header-size c l (w .0)) ∙ block-rest (c .content) d)
-    ∙ read-back cs (w .1) r p)
 
 -- ---- the parts of what is written
 
@@ -106,6 +35,10 @@ module _ (cs : List Child) where
   abbrev afterTypes : List ℕ
   afterTypes = beBytes 2 (length (nameTable cs)) ++ (nameTable cs ++ flat childData cs)
 
+  table-even : length (nameTable cs) % 2 ≡ 0
+  unfolding nameTable
+  table-even = omega (arith, length-padded (flat childName cs))
+
   pub encode-front : encodeChildren cs ≡ beBytes 2 (length cs) ++ afterCount
   unfolding encodeChildren
   encode-front =
@@ -113,37 +46,27 @@ module _ (cs : List Child) where
 
   pub length-encode : length (encodeChildren cs) ≡ 4 + 20 * length cs + length (nameTable cs) + length (flat childData cs)
   length-encode =
-      let e = ap length encode-front in
       omega (
         arith,
-        length-append (beBytes 2 (length cs)) afterCount,
-        length-append (flat childHeader cs) afterTypes,
+        ap length encode-front,
+        length-counted child-laws cs afterTypes,
         length-append (beBytes 2 (length (nameTable cs))) (nameTable cs ++ flat childData cs),
         length-append (nameTable cs) (flat childData cs),
-        length-beBytes 2 (length cs),
         length-beBytes 2 (length (nameTable cs)),
-        length-headers cs,
       )
 
   pub count-bytes : take 2 (encodeChildren cs) ≡ beBytes 2 (length cs)
-  count-bytes = ap (take 2) encode-front ∙ take-at (beBytes 2 (length cs)) afterCount 2 (length-beBytes 2 (length cs))
+  count-bytes = ap (take 2) encode-front ∙ counted-count child-laws cs afterTypes
 
   pub headers-written : headers (encodeChildren cs) ≡ afterCount
-  headers-written = ap (drop 2) encode-front ∙ drop-at (beBytes 2 (length cs)) afterCount 2 (length-beBytes 2 (length cs))
+  headers-written = ap (drop 2) encode-front ∙ counted-headers child-laws cs afterTypes
 
   module _ (w : WellBundle cs) where
     pub count-written : childCount (encodeChildren cs) ≡ length cs
-    count-written =
-        ap (λ (l : List ℕ). beVal (take 2 l)) encode-front
-        ∙ ap beVal (take-at (beBytes 2 (length cs)) afterCount 2 (length-beBytes 2 (length cs)))
-        ∙ beVal-beBytes 2 (length cs) (w .count-fits)
+    count-written = ap (λ (l : List ℕ). childCount l) encode-front ∙ counted-number child-laws cs afterTypes (w .count-fits)
 
     after-written : afterHeaders (encodeChildren cs) ≡ afterTypes
-    after-written =
-        ap (λ (n : ℕ). drop (2 + 20 * n) (encodeChildren cs)) count-written
-        ∙ sym (drop-drop (20 * length cs) 2 (encodeChildren cs))
-        ∙ ap (drop (20 * length cs)) headers-written
-        ∙ drop-at (flat childHeader cs) afterTypes (20 * length cs) (length-headers cs)
+    after-written = ap (λ (l : List ℕ). afterHeaders l) encode-front ∙ counted-after child-laws cs afterTypes (w .count-fits)
 
     tableSize-written : tableSize (encodeChildren cs) ≡ length (nameTable cs)
     tableSize-written =
@@ -177,24 +100,38 @@ module _ (cs : List Child) where
     fits-written : 4 + 20 * childCount (encodeChildren cs) + tableSize (encodeChildren cs) ≤ length (encodeChildren cs)
     fits-written = omega (arith, length-encode, count-written, tableSize-written)
 
-    table-ok : tableOk (length cs) (nameTable cs) ≡ true
-    unfolding tableOk nameTable padded
-    table-ok =
-        let n = length (flat childName cs) in
-        let b = length-replicate {A = ℕ} (n % 2) 0 in
-        let h : length (replicate {A = ℕ} (n % 2) 0) ≤ 1 = omega arith in
-        and-join _ _ (eq-eqb (length (padded (flat childName cs)) % 2) 0 (padded-even (flat childName cs)))
-        (names-written cs (w .each) (replicate (n % 2) 0) h (all-zeros (n % 2)))
+    -- the names and the data, put in front of the table's pad and of nothing
+    abbrev ends : List ℕ × List ℕ
+    ends = (replicate (length (flat childName cs) % 2) 0, [])
+
+    ends-pass : WalksPass 0 afterTypes ends
+    unfolding typesOk namesOk dataOk
+    ends-pass =
+        let n = length (flat childName cs) % 2 in
+        let h : length (replicate {A = ℕ} n 0) ≤ 1 = omega (arith, length-replicate {A = ℕ} n 0) in
+        (refl, and-join _ _ (le-leb (length (replicate n 0)) _ h) (all-zeros n), refl)
+
+    runs-written : _≡_ {A = List ℕ × List ℕ} (puts childItems cs ends) (tableOf (encodeChildren cs), dataOf (encodeChildren cs))
+    unfolding nameTable padded
+    runs-written =
+        let t = puts-run childItems childName (λ d. d .0) (λ c d. refl) cs ends ∙ sym table-written in
+        let d = puts-run childItems childData (λ d. d .1) (λ c d. refl) cs ends ∙ append-nil (flat childData cs) ∙ sym data-of-written in
+        λ i. (t i, d i)
+
+    walks-written : WalksPass (childCount (encodeChildren cs)) (headers (encodeChildren cs)) (tableOf (encodeChildren cs), dataOf (encodeChildren cs))
+        × (childrenOf (encodeChildren cs) ≡ cs)
+    unfolding childrenFrom
+    walks-written =
+        let P : List ℕ → List ℕ × List ℕ → Type 0 = λ s d. WalksPass (childCount s) (headers s) d × (itemsFrom childItems (childCount s) (headers s) d ≡ cs) in
+        subst (P (encodeChildren cs)) runs-written
+        (subst (λ (s : List ℕ). P s (puts childItems cs ends)) (sym encode-front) (counted-written child-laws cs afterTypes (w .count-fits) (w .each) ends ends-pass))
 
     layout-ok : layoutOk (encodeChildren cs) ≡ true
-    unfolding layoutOk
+    unfolding layoutOk tableOk
     layout-ok =
-        and-join _ _ (le-leb _ _ fits-written)
-        (and-join _ _ (ap₂ typesOk count-written headers-written ∙ types-written cs (w .each) afterTypes)
-        (and-join _ _ (ap₂ tableOk count-written table-written ∙ table-ok)
-        (ap₂ (λ (n : ℕ) (h : List ℕ). dataOk n h (dataOf (encodeChildren cs))) count-written headers-written
-        ∙ ap (dataOk (length cs) afterCount) data-of-written
-        ∙ data-written cs (w .each) afterTypes)))
+        let p = walks-written .0 in
+        let even : length (tableOf (encodeChildren cs)) % 2 ≡ 0 = ap (λ (t : List ℕ). length t % 2) table-written ∙ table-even in
+        and-join _ _ (le-leb _ _ fits-written) (and-join _ _ (p .0) (and-join _ _ (and-join _ _ (eq-eqb _ 0 even) (p .1)) (p .2)))
 
     -- a written bundle is laid out right
     pub layout-written : layoutFault (encodeChildren cs) ≡ 0
@@ -203,8 +140,4 @@ module _ (cs : List Child) where
 
     -- and is read back as itself
     pub children-written : childrenOf (encodeChildren cs) ≡ cs
-    unfolding nameTable padded
-    children-written =
-        ap₂ (λ (n : ℕ) (h : List ℕ). childrenFrom n h (tableOf (encodeChildren cs)) (dataOf (encodeChildren cs))) count-written headers-written
-        ∙ ap₂ (childrenFrom (length cs) afterCount) table-written data-of-written
-        ∙ read-back cs (w .each) afterTypes (replicate (length (flat childName cs) % 2) 0)
+    children-written = walks-written .1

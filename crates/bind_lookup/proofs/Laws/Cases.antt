@@ -1,4 +1,4 @@
--- A number is that of a child or past them, and a name is that of a first child or of none.
+-- An index is that of a child or past them, and a name is that of a first child or of none.
 use Prim.Native.Nat.{ℕ, suc, _<_, _≤_}
 use mathlib.Core.Path.{refl, sym}
 use mathlib.Core.Logic.{_⊎_, inl, inr, ⊎-elim}

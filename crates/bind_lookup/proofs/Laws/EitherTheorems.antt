@@ -133,4 +133,5 @@ either-theorems =
           let e = else-second (bindFault deepest a) (bindFault deepest b) h in
           faulty a b x (λ z. k (sym e ∙ z)) ∙ ap (λ (n : ℕ). record { number = n; source = Neither; at = 0; len = 0; clean = false }) e;
       empty = no-part;
+      found = λ a b x number bytes source mark f. f;
     }

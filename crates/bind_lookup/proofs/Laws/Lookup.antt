@@ -24,7 +24,7 @@ index-next n i t x h e =
     omega arith
 
 -- the end of a list stands where its length says
-end-place : (k : ℕ) (s : List ℕ) → drop (length s - length (drop k s)) s ≡ drop k s
+pub end-place : (k : ℕ) (s : List ℕ) → drop (length s - length (drop k s)) s ≡ drop k s
 end-place zero s = ap (λ (n : ℕ). drop n s) (sub-self (length s))
 end-place (suc k) [] = drop-nil (0 - 0)
 end-place (suc k) (x ∷ s) =

@@ -59,10 +59,10 @@ module _ (s : List ℕ) (cs : List Child) (h : HasChildren s cs) where
   count-of = ap (λ (l : List ℕ). childCount l) (sym written) ∙ count-written cs well
 
   -- the table's last 0, if any
-  abbrev pad : List ℕ
+  abbrev pub pad : List ℕ
   pad = replicate (length (flat childName cs) % 2) 0
 
-  table-of : tableOf s ≡ flat childName cs ++ pad
+  pub table-of : tableOf s ≡ flat childName cs ++ pad
   unfolding nameTable padded
   table-of = ap (λ (l : List ℕ). tableOf l) (sym written) ∙ table-written cs well
 
@@ -165,12 +165,16 @@ module _ (s : List ℕ) (cs : List Child) (n : ℕ) (c : Child) (h : HasChildren
       ∙ ap₂ (λ (m : ℕ) (l : List Child). dataFrom m (flat childHeader l ++ rest) (flat childData l)) (sym (k .index)) (sym (k .list))
       ∙ data-past (c ∷ after) rest (k .before) each
 
-  names-at : namesFrom n (tableOf s) ≡ childName c ++ (flat childName after ++ pad s cs h)
-  names-at =
-      ap (namesFrom n) (table-of s cs h)
-      ∙ ap₂ (λ (m : ℕ) (l : List Child). namesFrom m (flat childName l ++ pad s cs h)) (sym (k .index)) (sym (k .list))
-      ∙ names-past (c ∷ after) (pad s cs h) (k .before) each
-      ∙ flat-cons childName c after (pad s cs h)
+  -- the name, in a list that begins with the names
+  pub name-from : (t r : List ℕ) → t ≡ flat childName cs ++ r → textOf (namesFrom n t) ≡ c .name
+  name-from t r e =
+      ap (λ (l : List ℕ). textOf (namesFrom n l)) e
+      ∙ ap₂ (λ (m : ℕ) (l : List Child). textOf (namesFrom m (flat childName l ++ r))) (sym (k .index)) (sym (k .list))
+      ∙ ap textOf (names-past (c ∷ after) r (k .before) each ∙ flat-cons childName c after r)
+      ∙ name-text c well-child (flat childName after ++ r)
+
+  pub type-at : typeOf (headersFrom n s) ≡ c .typeText
+  type-at = ap typeOf headers-at ∙ header-type c (flat childHeader after ++ rest) well-child
 
   len-at : sizeOf (headersFrom n s) ≡ length (c .content)
   len-at = ap sizeOf headers-at ∙ header-size c (flat childHeader after ++ rest) well-child
@@ -182,11 +186,11 @@ module _ (s : List ℕ) (cs : List Child) (n : ℕ) (c : Child) (h : HasChildren
       let d = ap (λ (l : List Child). length (flat childData l)) (sym (k .list)) ∙ ap length (flat-append childData (k .before) (c ∷ after)) in
       omega (arith, a, b, d, length-append (flat childData (k .before)) (flat childData (c ∷ after)))
 
-  number-at : indexFault (bindFault deepest s) s n ≡ 0
-  number-at = number-found (bindFault deepest s) s n (accepted s cs h) inside
+  pub place-at : placeOf s n ≡ record { number = 0; at = length s - length (dataFrom n (headers s) (dataOf s)); len = sizeOf (headersFrom n s); clean = markOf s }
+  place-at = placed-accepted (indexFault (bindFault deepest s) s n) (markOf s) s n (number-found (bindFault deepest s) s n (accepted s cs h) inside)
 
-  place-at : placeOf s n ≡ record { number = 0; at = length s - length (dataFrom n (headers s) (dataOf s)); len = sizeOf (headersFrom n s); clean = markOf s }
-  place-at = placed-accepted (indexFault (bindFault deepest s) s n) (markOf s) s n number-at
+  number-at : placeOf s n .number ≡ 0
+  number-at = ap (λ (p : Place). p .number) place-at
 
   pub child-place : placeOf s n ≡ placeAmong (markOf s) cs (k .before) c
   child-place = place-at ∙ (λ i. record { number = 0; at = at-at i; len = len-at i; clean = markOf s })
@@ -199,11 +203,11 @@ module _ (s : List ℕ) (cs : List Child) (n : ℕ) (c : Child) (h : HasChildren
 
   child-type : typeAt s n ≡ c .typeText
   unfolding typeAt
-  child-type = simp (eq-eqb _ 0 number-at) (ap typeOf headers-at ∙ header-type c (flat childHeader after ++ rest) well-child)
+  child-type = simp (eq-eqb _ 0 number-at) type-at
 
   child-name : nameAt s n ≡ c .name
   unfolding nameAt
-  child-name = simp (eq-eqb _ 0 number-at) (ap textOf names-at ∙ name-text c well-child (flat childName after ++ pad s cs h))
+  child-name = simp (eq-eqb _ 0 number-at) (name-from (tableOf s) (pad s cs h) (table-of s cs h))
 
 module _ (s : List ℕ) (cs : List Child) (h : HasChildren s cs) where
   place-past : (n : ℕ) → length cs ≤ n → placeOf s n ≡ record { number = 19; at = 0; len = 0; clean = false }
@@ -234,7 +238,7 @@ children-of s (bind tree) t w e = (childList tree, record { tree = tree; well = 
 children-of s (other u r) t w e = absurd (w .0 .no-bind t)
 
 has-children : (s : List ℕ) → Bytes s → bindFault deepest s ≡ 0 → (cs : List Child) × HasChildren s cs
-has-children s b e = let x = content-accepted deepest bindText s b (bind-content deepest s ∙ e) in children-of s (x .content) (x .type) (x .well) (x .bytes)
+has-children s b e = let x = content-accepted deepest bindText s b (bind-content deepest s ∙ e) in children-of s (x .0) (x .1 .1) (x .1 .0) (x .2)
 
 -- ---- a refused look-up
 
@@ -246,7 +250,7 @@ unfolding typeAt nameAt
 empty-parts s n h =
     let k = indexFault (bindFault deepest s) s n in
     let z : k ≡ 0 → ⊥ = λ e. h (ap (λ (p : Place). p .number) (placed-accepted k (markOf s) s n e)) in
-    (ap (λ (p : Place). partAt p s) (placed-refused k (markOf s) s n z), simp (ne-eqb k 0 z), simp (ne-eqb k 0 z))
+    (ap (λ (p : Place). partAt p s) (placed-refused k (markOf s) s n z), simp (ne-eqb _ 0 h), simp (ne-eqb _ 0 h))
 
 pub lookup-theorems : LookupTheorems
 lookup-theorems =

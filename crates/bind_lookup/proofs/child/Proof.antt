@@ -6,14 +6,8 @@ use borrow.Author.Needs.{needs}
 use Rattle.bind_lookup.proofs.child.Statement.{statement}
 use Rattle.bind_lookup.proofs.child.Tie as tie
 
-child-place-requires : tie.Need-child-place-requires
-child-place-requires c κs = search needs
-
-part-requires : tie.Need-part-requires
-part-requires c κs = search needs
-
 returns : tie.Need-returns
 returns c = c .part .ensures ∙ ap (λ (p : Place). partAt p (c .before .before .before .args .content .now)) (c .before .child-place .ensures)
 
 pub child-spec : {M : Type 1} → statement M
-child-spec = tie.close (tie.spec child-place-requires part-requires returns)
+child-spec = tie.close (tie.spec (λ c κs. search needs) (λ c κs. search needs) returns)

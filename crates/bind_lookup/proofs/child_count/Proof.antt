@@ -9,18 +9,12 @@ use Rattle.content.proofs.Laws.ChildrenWalk.{bind-fault}
 use Rattle.bind_lookup.proofs.child_count.Statement.{statement}
 use Rattle.bind_lookup.proofs.child_count.Tie as tie
 
-bind-check-requires : tie.Need-bind-check-requires
-bind-check-requires c κs = search needs
-
 returns : tie.Need-returns
 unfolding countOf
 returns c =
     let s = c .before .before .before .before .args .content .now in
     let e = ap (λ (x : Checked). x .number) (c .before .before .bind-check .ensures) ∙ bind-fault deepest s in
     simp (ne-eqb _ 0 (λ z. c .if1 .taken (e ∙ z))) cc
-
-child-count-requires : tie.Need-child-count-requires
-child-count-requires c κs = search needs
 
 returns-2 : tie.Need-returns-2
 unfolding countOf
@@ -30,4 +24,4 @@ returns-2 c =
     simp (eq-eqb _ 0 e) cc
 
 pub child-count-spec : {M : Type 1} → statement M
-child-count-spec = tie.close (tie.spec bind-check-requires returns child-count-requires returns-2)
+child-count-spec = tie.close (tie.spec (λ c κs. search needs) returns (λ c κs. search needs) returns-2)

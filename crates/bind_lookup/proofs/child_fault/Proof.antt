@@ -1,26 +1,12 @@
--- `bind_lookup::child_fault` meets its contract: the fault, then the count.
-use mathlib.Core.Path.{sym, _∙_}
-use borrow.Author.Tests.{lt-ltb, le-ltb}
-use Rattle.fields.proofs.Laws.Checks.{else-second}
-use Rattle.bind_lookup.specs.ChildLookup.{indexFault}
-use Rattle.bind_lookup.proofs.Laws.Lookup.{number-fault}
+-- `bind_lookup::child_fault` meets its contract.
+use mathlib.Core.Path.{ap}
+use Rattle.bind_lookup.specs.declared.Place.{Place}
 use borrow.Author.Needs.{needs}
 use Rattle.bind_lookup.proofs.child_fault.Statement.{statement}
 use Rattle.bind_lookup.proofs.child_fault.Tie as tie
 
 returns : tie.Need-returns
-returns c = sym (number-fault _ _ _ (c .if1 .taken))
-
-child-count-requires : tie.Need-child-count-requires
-child-count-requires c κs = search needs
-
-returns-2 : tie.Need-returns-2
-unfolding indexFault
-returns-2 c = sym (else-second _ _ (c .before .before .if1 .left) ∙ simp (sym (c .before .child-count .ensures)) (simp (lt-ltb _ _ (c .if2 .taken))))
-
-returns-3 : tie.Need-returns-3
-unfolding indexFault
-returns-3 c = sym (else-second _ _ (c .before .before .if1 .left) ∙ simp (sym (c .before .child-count .ensures)) (simp (le-ltb _ _ (c .if2 .left))))
+returns c = ap (λ (p : Place). p .number) (c .child-place .ensures)
 
 pub child-fault-spec : {M : Type 1} → statement M
-child-fault-spec = tie.close (tie.spec returns child-count-requires returns-2 returns-3)
+child-fault-spec = tie.close (tie.spec (λ c κs. search needs) returns)

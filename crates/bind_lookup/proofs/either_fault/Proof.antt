@@ -5,11 +5,8 @@ use borrow.Author.Needs.{needs}
 use Rattle.bind_lookup.proofs.either_fault.Statement.{statement}
 use Rattle.bind_lookup.proofs.either_fault.Tie as tie
 
-either-place-requires : tie.Need-either-place-requires
-either-place-requires c κs = search needs
-
 returns : tie.Need-returns
 returns c = ap (λ (p : EitherPlace). p .number) (c .either-place .ensures)
 
 pub either-fault-spec : {M : Type 1} → statement M
-either-fault-spec = tie.close (tie.spec either-place-requires returns)
+either-fault-spec = tie.close (tie.spec (λ c κs. search needs) returns)

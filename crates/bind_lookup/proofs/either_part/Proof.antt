@@ -9,14 +9,8 @@ use borrow.Author.Needs.{needs}
 use Rattle.bind_lookup.proofs.either_part.Statement.{statement}
 use Rattle.bind_lookup.proofs.either_part.Tie as tie
 
-source-of-requires : tie.Need-source-of-requires
-source-of-requires c κs = search needs
-
 enum-told : tie.Need-enum-told
 enum-told c = search needs
-
-part-requires : tie.Need-part-requires
-part-requires c κs = search needs
 
 returns : tie.Need-returns
 returns c =
@@ -24,23 +18,11 @@ returns c =
     let k = sym (c .before .before .before .source-of .ensures) ∙ c .before .enum-told .given .1 in
     c .part .ensures ∙ sym (ap (λ (x : Source). part (z .p .len) (z .p .at) (bundleOf x (z .site .now) (z .default .now))) k)
 
-enum-told-2 : tie.Need-enum-told-2
-enum-told-2 c = search needs
-
-part-requires-2 : tie.Need-part-requires-2
-part-requires-2 c κs = search needs
-
 returns-2 : tie.Need-returns-2
 returns-2 c =
     let z = c .before .before .before .before .before .before .args in
     let k = sym (c .before .before .before .source-of .ensures) ∙ c .before .enum-told2 .given .1 in
     c .part2 .ensures ∙ sym (ap (λ (x : Source). part (z .p .len) (z .p .at) (bundleOf x (z .site .now) (z .default .now))) k)
-
-enum-told-3 : tie.Need-enum-told-3
-enum-told-3 c = search needs
-
-slice-aggregate-result : tie.Need-slice-aggregate-result
-slice-aggregate-result c = search needs
 
 returns-3 : tie.Need-returns-3
 returns-3 c =
@@ -52,13 +34,13 @@ pub either-part-spec : {M : Type 1} → statement M
 either-part-spec =
     tie.close
     (tie.spec
-    source-of-requires
+    (λ c κs. search needs)
     enum-told
-    part-requires
+    (λ c κs. search needs)
     returns
-    enum-told-2
-    part-requires-2
+    (λ c. search needs)
+    (λ c κs. search needs)
     returns-2
-    enum-told-3
-    slice-aggregate-result
+    (λ c. search needs)
+    (λ c. search needs)
     returns-3)

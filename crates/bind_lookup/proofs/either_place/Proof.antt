@@ -1,6 +1,6 @@
 -- `bind_lookup::either_place` meets its contract: the site's bundle where it has the name, else the default one.
 use Prim.Native.Nat.{ℕ, _≤_, _<_}
-use mathlib.Core.Path.{_≡_, ap, sym, ap₂, _∙_}
+use mathlib.Core.Path.{_≡_, sym, ap₂, _∙_}
 use mathlib.Core.Bool.{true, false}
 use lib.Dec.{ltb}
 use borrow.Author.Tests.{lt-ltb, le-ltb}
@@ -19,27 +19,6 @@ module _ {i j n m : ℕ} (p : i ≡ j) (q : n ≡ m) where
   not-below : n ≤ i → ltb j m ≡ false
   not-below h = ap₂ ltb (sym p) (sym q) ∙ le-ltb i n h
 
-bind-check-requires : tie.Need-bind-check-requires
-bind-check-requires c κs = search needs
-
-bind-check-requires-2 : tie.Need-bind-check-requires-2
-bind-check-requires-2 c κs = search needs
-
-first-fault-requires : tie.Need-first-fault-requires
-first-fault-requires c κs = search needs
-
-index-of-requires : tie.Need-index-of-requires
-index-of-requires c κs = search needs
-
-child-count-requires : tie.Need-child-count-requires
-child-count-requires c κs = search needs
-
-place-in-requires : tie.Need-place-in-requires
-place-in-requires c κs = search needs
-
-sourced-requires : tie.Need-sourced-requires
-sourced-requires c κs = search needs
-
 returns : tie.Need-returns
 unfolding eitherPlace
 returns c =
@@ -48,15 +27,6 @@ returns c =
     let p = bind-fault deepest (z .site .now) in
     let q = bind-fault deepest (z .default .now) in
     simp (below (a .before .index-of .ensures) (a .child-count .ensures) (c .before .before .if1 .taken)) cc
-
-index-of-requires-2 : tie.Need-index-of-requires-2
-index-of-requires-2 c κs = search needs
-
-place-in-requires-2 : tie.Need-place-in-requires-2
-place-in-requires-2 c κs = search needs
-
-sourced-requires-2 : tie.Need-sourced-requires-2
-sourced-requires-2 c κs = search needs
 
 returns-2 : tie.Need-returns-2
 unfolding eitherPlace
@@ -71,15 +41,15 @@ pub either-place-spec : {M : Type 1} → statement M
 either-place-spec =
     tie.close
     (tie.spec
-    bind-check-requires
-    bind-check-requires-2
-    first-fault-requires
-    index-of-requires
-    child-count-requires
-    place-in-requires
-    sourced-requires
+    (λ c κs. search needs)
+    (λ c κs. search needs)
+    (λ c κs. search needs)
+    (λ c κs. search needs)
+    (λ c κs. search needs)
+    (λ c κs. search needs)
+    (λ c κs. search needs)
     returns
-    index-of-requires-2
-    place-in-requires-2
-    sourced-requires-2
+    (λ c κs. search needs)
+    (λ c κs. search needs)
+    (λ c κs. search needs)
     returns-2)

@@ -5,14 +5,8 @@ use borrow.Author.Needs.{needs}
 use Rattle.bind_lookup.proofs.either_source.Statement.{statement}
 use Rattle.bind_lookup.proofs.either_source.Tie as tie
 
-either-place-requires : tie.Need-either-place-requires
-either-place-requires c κs = search needs
-
-source-of-requires : tie.Need-source-of-requires
-source-of-requires c κs = search needs
-
 returns : tie.Need-returns
 returns c = c .source-of .ensures ∙ ap (λ (p : EitherPlace). p .source) (c .before .either-place .ensures)
 
 pub either-source-spec : {M : Type 1} → statement M
-either-source-spec = tie.close (tie.spec either-place-requires source-of-requires returns)
+either-source-spec = tie.close (tie.spec (λ c κs. search needs) (λ c κs. search needs) returns)

@@ -6,14 +6,8 @@ use borrow.Author.Needs.{needs}
 use Rattle.bind_lookup.proofs.named.Statement.{statement}
 use Rattle.bind_lookup.proofs.named.Tie as tie
 
-named-place-requires : tie.Need-named-place-requires
-named-place-requires c κs = search needs
-
-part-requires : tie.Need-part-requires
-part-requires c κs = search needs
-
 returns : tie.Need-returns
 returns c = c .part .ensures ∙ ap (λ (p : Place). partAt p (c .before .before .before .before .args .content .now)) (c .before .named-place .ensures)
 
 pub named-spec : {M : Type 1} → statement M
-named-spec = tie.close (tie.spec named-place-requires part-requires returns)
+named-spec = tie.close (tie.spec (λ c κs. search needs) (λ c κs. search needs) returns)

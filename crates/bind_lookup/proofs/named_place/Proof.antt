@@ -5,15 +5,6 @@ use Rattle.content.proofs.Laws.ChildrenWalk.{bind-fault}
 use Rattle.bind_lookup.proofs.named_place.Statement.{statement}
 use Rattle.bind_lookup.proofs.named_place.Tie as tie
 
-bind-check-requires : tie.Need-bind-check-requires
-bind-check-requires c κs = search needs
-
-index-of-requires : tie.Need-index-of-requires
-index-of-requires c κs = search needs
-
-place-in-requires : tie.Need-place-in-requires
-place-in-requires c κs = search needs
-
 returns : tie.Need-returns
 returns c =
     let n = bind-fault deepest (c .before .before .before .before .before .args .content .now) in
@@ -21,4 +12,4 @@ returns c =
 
 pub named-place-spec : {M : Type 1} → statement M
 named-place-spec =
-    tie.close (tie.spec bind-check-requires index-of-requires place-in-requires returns)
+    tie.close (tie.spec (λ c κs. search needs) (λ c κs. search needs) (λ c κs. search needs) returns)

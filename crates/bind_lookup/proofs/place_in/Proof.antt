@@ -7,13 +7,13 @@ use borrow.Author.Needs.{needs}
 use Rattle.bind_lookup.proofs.place_in.Statement.{statement}
 use Rattle.bind_lookup.proofs.place_in.Tie as tie
 
-child-fault-requires : tie.Need-child-fault-requires
-child-fault-requires c κs = search needs
+index-fault-requires : tie.Need-index-fault-requires
+index-fault-requires c κs = search needs
 
 returns : tie.Need-returns
 unfolding placed
 returns c =
-    let e = c .before .child-fault .ensures in
+    let e = c .before .index-fault .ensures in
     simp (ne-eqb _ 0 (λ z. c .if1 .taken (e ∙ z))) cc
 
 data-from-requires : tie.Need-data-from-requires
@@ -31,14 +31,14 @@ size-of-requires c κs = search needs
 returns-2 : tie.Need-returns-2
 unfolding placed
 returns-2 c =
-    let e = sym (c .before .before .before .before .child-fault .ensures) ∙ c .before .before .before .if1 .left in
+    let e = sym (c .before .before .before .before .index-fault .ensures) ∙ c .before .before .before .if1 .left in
     simp (eq-eqb _ 0 e) cc
 
 pub place-in-spec : {M : Type 1} → statement M
 place-in-spec =
     tie.close
     (tie.spec
-    child-fault-requires
+    index-fault-requires
     returns
     data-from-requires
     sub-t10

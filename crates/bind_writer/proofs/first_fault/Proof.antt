@@ -25,33 +25,12 @@ abbrev μ-loop : tie.MeasureT-loop
 loop-holds : tie.Need-loop-holds Inv-loop μ-loop
 loop-holds c = (omega arith, λ cs p q. refl)
 
-mul-type-text : tie.Need-mul-type-text Inv-loop μ-loop
-mul-type-text c = search needs
-
-shared-slice-copy-out-type-text : tie.Need-shared-slice-copy-out-type-text Inv-loop μ-loop
-shared-slice-copy-out-type-text c = search needs
-
-mul-content : tie.Need-mul-content Inv-loop μ-loop
-mul-content c = search needs
-
-shared-slice-copy-out-content : tie.Need-shared-slice-copy-out-content Inv-loop μ-loop
-shared-slice-copy-out-content c = search needs
-
-child-fault-requires : tie.Need-child-fault-requires Inv-loop μ-loop
-child-fault-requires c κs = search needs
-
 returns : tie.Need-returns Inv-loop μ-loop
 returns c =
     let a = c .before .before .before .before .before .before .args in
     let l = c .before .before .before .before .before .loop in
     let n = c .before .child-fault in
     λ cs p q. sym (l .inv .1 cs p q ∙ faults-stop (a .types .now) (l .i) (omega arith) cs p (a .contents .now) q (n .result) (n .ensures) (c .if1 .taken))
-
-add-i : tie.Need-add-i Inv-loop μ-loop
-add-i c = search needs
-
-loop-less : tie.Need-loop-less Inv-loop μ-loop
-loop-less c = search needs
 
 loop-again : tie.Need-loop-again Inv-loop μ-loop
 loop-again c =
@@ -74,13 +53,13 @@ first-fault-spec =
     Inv-loop
     μ-loop
     loop-holds
-    mul-type-text
-    shared-slice-copy-out-type-text
-    mul-content
-    shared-slice-copy-out-content
-    child-fault-requires
+    (λ c. search needs)
+    (λ c. search needs)
+    (λ c. search needs)
+    (λ c. search needs)
+    (λ c κs. search needs)
     returns
-    add-i
-    loop-less
+    (λ c. search needs)
+    (λ c. search needs)
     loop-again
     returns-2)

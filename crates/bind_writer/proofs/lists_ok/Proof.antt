@@ -38,9 +38,6 @@ returns-3 c =
     let ts = a .types .now in
     sym (lists-refused (map now ts) (map now (a .names .now)) (map now (a .contents .now)) (λ l. omega (arith, leb-true (length (map now ts)) _ (l .few), length-map ts now)))
 
-texts-ok-requires : tie.Need-texts-ok-requires
-texts-ok-requires c κs = search needs
-
 returns-4 : tie.Need-returns-4
 returns-4 c =
     let a = c .before .before .before .before .before .args in
@@ -51,12 +48,6 @@ returns-4 c =
     sym (lists-refused ts ns ds (λ l.
     let e = lists-of ts ns ds (l .count) in
     false≢true (sym (not-true (g .result) (c .if4 .taken)) ∙ g .ensures (children ts ns ds) (e .0) (e .1) ∙ l .texts)))
-
-names-len-requires : tie.Need-names-len-requires
-names-len-requires c κs = search needs
-
-add-if5 : tie.Need-add-if5
-add-if5 c = search needs
 
 returns-5 : tie.Need-returns-5
 returns-5 c =
@@ -89,9 +80,9 @@ lists-ok-spec =
     returns
     returns-2
     returns-3
-    texts-ok-requires
+    (λ c κs. search needs)
     returns-4
-    names-len-requires
-    add-if5
+    (λ c κs. search needs)
+    (λ c. search needs)
     returns-5
     returns-6)

@@ -26,9 +26,6 @@ cast-put16 c =
     let g = lists-passed (map now (a .types .now)) (map now (a .names .now)) (map now (a .contents .now)) (c .before .pre .0) in
     omega (arith, leb-true (length (map now (a .types .now))) _ (g .few), length-map (a .types .now) now)
 
-put16-requires : tie.Need-put16-requires
-put16-requires c κs = search needs
-
 put-headers-requires : tie.Need-put-headers-requires
 put-headers-requires c κs =
     let a = c .before .before .before .before .before .before .args in
@@ -38,12 +35,6 @@ put-headers-requires c κs =
     let g = lists-passed (map now ts) (map now ns) (map now ds) (c .before .before .before .before .before .before .pre .0) in
     let e = length-given (map now ts) (map now ns) (map now ds) (g .count) in
     (count-same ts ns ds (g .count) .1, omega (arith, c .before .before .before .before .before .before .pre .1, length-map ts now))
-
-mul-put-table : tie.Need-mul-put-table
-mul-put-table c = search needs
-
-add-put-table : tie.Need-add-put-table
-add-put-table c = search needs
 
 put-table-requires : tie.Need-put-table-requires
 put-table-requires c κs =
@@ -64,9 +55,6 @@ put-contents-requires c κs =
     let g = lists-passed ts ns ds (c .before .before .before .before .before .before .before .before .before .before .before .before .before .before .pre .0) in
     let e = length-given ts ns ds (g .count) in
     (count-same (a .types .now) (a .names .now) (a .contents .now) (g .count) .1, omega (arith, c .before .before .before .before .before .before .before .before .before .before .before .before .before .before .pre .1, c .before .before .before .put-table .ensures .0, length-map (a .types .now) now))
-
-same-length : tie.Need-same-length
-same-length c = search needs
 
 returns : tie.Need-returns
 returns c =
@@ -96,11 +84,11 @@ put-children-spec =
     tie.close
     (tie.spec
     cast-put16
-    put16-requires
+    (λ c κs. search needs)
     put-headers-requires
-    mul-put-table
-    add-put-table
+    (λ c. search needs)
+    (λ c. search needs)
     put-table-requires
     put-contents-requires
-    same-length
+    (λ c. search needs)
     returns)

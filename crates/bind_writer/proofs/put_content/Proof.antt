@@ -15,24 +15,6 @@ use Rattle.bind_writer.proofs.Laws.Children.{length-content}
 use Rattle.bind_writer.proofs.put_content.Statement.{statement}
 use Rattle.bind_writer.proofs.put_content.Tie as tie
 
-put-clean-requires : tie.Need-put-clean-requires
-put-clean-requires c κs = search needs
-
-add-put-pad : tie.Need-add-put-pad
-add-put-pad c = search needs
-
-put-pad-requires : tie.Need-put-pad-requires
-put-pad-requires c κs = search needs
-
-add-result : tie.Need-add-result
-add-result c = search needs
-
-add-result-2 : tie.Need-add-result-2
-add-result-2 c = search needs
-
-same-length : tie.Need-same-length
-same-length c = search needs
-
 returns : tie.Need-returns
 unfolding padded
 returns c =
@@ -55,10 +37,10 @@ pub put-content-spec : {M : Type 1} → statement M
 put-content-spec =
     tie.close
     (tie.spec
-    put-clean-requires
-    add-put-pad
-    put-pad-requires
-    add-result
-    add-result-2
-    same-length
+    (λ c κs. search needs)
+    (λ c. search needs)
+    (λ c κs. search needs)
+    (λ c. search needs)
+    (λ c. search needs)
+    (λ c. search needs)
     returns)

@@ -34,26 +34,11 @@ loop-holds c =
     let l = ap length e in
     (omega arith, refl, omega arith, λ cs p q. ap (sets (a .out .now) (a .at)) (sym (flat-none cleanData cs)))
 
-mul-type-text : tie.Need-mul-type-text Inv-loop μ-loop
-mul-type-text c = search needs
-
 shared-slice-copy-out-type-text : tie.Need-shared-slice-copy-out-type-text Inv-loop μ-loop
 shared-slice-copy-out-type-text c = omega (arith, c .before .before .before .pre .0)
 
-mul-content : tie.Need-mul-content Inv-loop μ-loop
-mul-content c = search needs
-
-shared-slice-copy-out-content : tie.Need-shared-slice-copy-out-content Inv-loop μ-loop
-shared-slice-copy-out-content c = search needs
-
 put-content-requires : tie.Need-put-content-requires Inv-loop μ-loop
 put-content-requires c κs = omega (arith, c .before .before .before .before .before .before .pre .1, c .before .before .before .before .loop .inv .1, c .before .before .before .before .loop .inv .2, length-slices-le padded (c .before .before .before .before .before .before .args .contents .now) (c .before .before .before .before .loop .i) (omega arith))
-
-add-i : tie.Need-add-i Inv-loop μ-loop
-add-i c = search needs
-
-loop-less : tie.Need-loop-less Inv-loop μ-loop
-loop-less c = search needs
 
 loop-again : tie.Need-loop-again Inv-loop μ-loop
 loop-again c =
@@ -71,9 +56,6 @@ loop-again c =
           ∙ ap₂ (λ (y : List ℕ) (n : ℕ). sets y n x) (l .inv .3 cs p q) (l .inv .2)
           ∙ datas-next ts (l .i) (omega (arith, c .before .before .before .before .before .before .before .before .before .pre .0)) cs p ps q (a .out .now) (a .at),
     )
-
-same-length : tie.Need-same-length Inv-loop μ-loop
-same-length c = search needs
 
 returns : tie.Need-returns Inv-loop μ-loop
 returns c =
@@ -93,13 +75,13 @@ put-contents-spec =
     Inv-loop
     μ-loop
     loop-holds
-    mul-type-text
+    (λ c. search needs)
     shared-slice-copy-out-type-text
-    mul-content
-    shared-slice-copy-out-content
+    (λ c. search needs)
+    (λ c. search needs)
     put-content-requires
-    add-i
-    loop-less
+    (λ c. search needs)
+    (λ c. search needs)
     loop-again
-    same-length
+    (λ c. search needs)
     returns)

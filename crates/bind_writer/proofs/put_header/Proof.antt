@@ -11,18 +11,6 @@ use Rattle.fields.proofs.Laws.Text.{length-textBytes}
 use Rattle.bind_writer.proofs.put_header.Statement.{statement}
 use Rattle.bind_writer.proofs.put_header.Tie as tie
 
-put-text12-requires : tie.Need-put-text12-requires
-put-text12-requires c κs = search needs
-
-add-put64 : tie.Need-add-put64
-add-put64 c = search needs
-
-put64-requires : tie.Need-put64-requires
-put64-requires c κs = search needs
-
-same-length : tie.Need-same-length
-same-length c = search needs
-
 returns : tie.Need-returns
 returns c =
     let a = c .before .before .before .before .before .before .before .before .before .before .args in
@@ -35,4 +23,4 @@ returns c =
 
 pub put-header-spec : {M : Type 1} → statement M
 put-header-spec =
-    tie.close (tie.spec put-text12-requires add-put64 put64-requires same-length returns)
+    tie.close (tie.spec (λ c κs. search needs) (λ c. search needs) (λ c κs. search needs) (λ c. search needs) returns)

@@ -30,18 +30,6 @@ abbrev μ-loop : tie.MeasureT-loop
 loop-holds : tie.Need-loop-holds Inv-loop μ-loop
 loop-holds c = (omega arith, refl, λ cs p q. ap (sets (c .before .args .out .now) 2) (sym (flat-none plainHeader cs)))
 
-mul-type-text : tie.Need-mul-type-text Inv-loop μ-loop
-mul-type-text c = search needs
-
-shared-slice-copy-out-type-text : tie.Need-shared-slice-copy-out-type-text Inv-loop μ-loop
-shared-slice-copy-out-type-text c = search needs
-
-mul-content : tie.Need-mul-content Inv-loop μ-loop
-mul-content c = search needs
-
-shared-slice-copy-out-content : tie.Need-shared-slice-copy-out-content Inv-loop μ-loop
-shared-slice-copy-out-content c = search needs
-
 mul-put-header : tie.Need-mul-put-header Inv-loop μ-loop
 mul-put-header c = omega (arith, c .before .before .before .before .before .pre .1)
 
@@ -50,12 +38,6 @@ add-put-header c = omega (arith, c .before .before .before .before .before .pre 
 
 put-header-requires : tie.Need-put-header-requires Inv-loop μ-loop
 put-header-requires c κs = omega (arith, c .before .before .before .before .before .before .pre .1)
-
-add-i : tie.Need-add-i Inv-loop μ-loop
-add-i c = search needs
-
-loop-less : tie.Need-loop-less Inv-loop μ-loop
-loop-less c = search needs
 
 loop-again : tie.Need-loop-again Inv-loop μ-loop
 loop-again c =
@@ -70,9 +52,6 @@ loop-again c =
           ∙ headers-next (a .types .now) (l .i) (omega arith) cs p (a .contents .now) q (a .out .now),
     )
 
-same-length : tie.Need-same-length Inv-loop μ-loop
-same-length c = search needs
-
 returns : tie.Need-returns Inv-loop μ-loop
 returns c =
     let l = c .before .loop in
@@ -85,15 +64,15 @@ put-headers-spec =
     Inv-loop
     μ-loop
     loop-holds
-    mul-type-text
-    shared-slice-copy-out-type-text
-    mul-content
-    shared-slice-copy-out-content
+    (λ c. search needs)
+    (λ c. search needs)
+    (λ c. search needs)
+    (λ c. search needs)
     mul-put-header
     add-put-header
     put-header-requires
-    add-i
-    loop-less
+    (λ c. search needs)
+    (λ c. search needs)
     loop-again
-    same-length
+    (λ c. search needs)
     returns)

@@ -12,21 +12,6 @@ use Rattle.bind_writer.proofs.Laws.Encoding.{length-ended}
 use Rattle.bind_writer.proofs.put_name.Statement.{statement}
 use Rattle.bind_writer.proofs.put_name.Tie as tie
 
-add-end : tie.Need-add-end
-add-end c = search needs
-
-put-requires : tie.Need-put-requires
-put-requires c κs = search needs
-
-put8-requires : tie.Need-put8-requires
-put8-requires c κs = search needs
-
-add-result : tie.Need-add-result
-add-result c = search needs
-
-same-length : tie.Need-same-length
-same-length c = search needs
-
 returns : tie.Need-returns
 unfolding beBytes
 returns c =
@@ -40,4 +25,4 @@ returns c =
 
 pub put-name-spec : {M : Type 1} → statement M
 put-name-spec =
-    tie.close (tie.spec add-end put-requires put8-requires add-result same-length returns)
+    tie.close (tie.spec (λ c. search needs) (λ c κs. search needs) (λ c κs. search needs) (λ c. search needs) (λ c. search needs) returns)

@@ -31,20 +31,8 @@ loop-holds c =
     let l = ap length e in
     (omega arith, refl, omega arith, ap (sets (a .out .now) (a .at)) (sym e))
 
-mul-name : tie.Need-mul-name Inv-loop μ-loop
-mul-name c = search needs
-
-shared-slice-copy-out-name : tie.Need-shared-slice-copy-out-name Inv-loop μ-loop
-shared-slice-copy-out-name c = search needs
-
 put-name-requires : tie.Need-put-name-requires Inv-loop μ-loop
 put-name-requires c κs = omega (arith, c .before .before .before .before .before .pre, length-slices-le ended (c .before .before .before .before .before .args .names .now) (c .before .before .before .loop .i) (omega arith))
-
-add-i : tie.Need-add-i Inv-loop μ-loop
-add-i c = search needs
-
-loop-less : tie.Need-loop-less Inv-loop μ-loop
-loop-less c = search needs
 
 loop-again : tie.Need-loop-again Inv-loop μ-loop
 loop-again c =
@@ -62,9 +50,6 @@ loop-again c =
           ∙ sets-slices-next ended ps (l .i) (omega arith) (a .out .now) (a .at),
     )
 
-same-length : tie.Need-same-length Inv-loop μ-loop
-same-length c = search needs
-
 returns : tie.Need-returns Inv-loop μ-loop
 returns c =
     let a = c .before .before .before .args in
@@ -79,11 +64,11 @@ put-names-spec =
     Inv-loop
     μ-loop
     loop-holds
-    mul-name
-    shared-slice-copy-out-name
+    (λ c. search needs)
+    (λ c. search needs)
     put-name-requires
-    add-i
-    loop-less
+    (λ c. search needs)
+    (λ c. search needs)
     loop-again
-    same-length
+    (λ c. search needs)
     returns)

@@ -12,12 +12,6 @@ use Rattle.bind_writer.proofs.put_pad.Tie as tie
 returns : tie.Need-returns
 returns c = ap (λ (k : ℕ). sets (c .before .before .args .out .now) (c .before .before .args .at) (replicate k 0)) (sym (c .if1 .taken))
 
-put8-requires : tie.Need-put8-requires
-put8-requires c κs = search needs
-
-same-length : tie.Need-same-length
-same-length c = search needs
-
 returns-2 : tie.Need-returns-2
 unfolding beBytes
 returns-2 c =
@@ -26,4 +20,4 @@ returns-2 c =
     c .before .before .put8 .ensures ∙ ap (λ (m : ℕ). sets (a .out .now) (a .at) (replicate m 0)) (sym k)
 
 pub put-pad-spec : {M : Type 1} → statement M
-put-pad-spec = tie.close (tie.spec returns put8-requires same-length returns-2)
+put-pad-spec = tie.close (tie.spec returns (λ c κs. search needs) (λ c. search needs) returns-2)

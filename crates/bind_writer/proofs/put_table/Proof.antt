@@ -14,32 +14,14 @@ use Rattle.bind_writer.proofs.Laws.Encoding.{table-stores}
 use Rattle.bind_writer.proofs.put_table.Statement.{statement}
 use Rattle.bind_writer.proofs.put_table.Tie as tie
 
-names-len-requires : tie.Need-names-len-requires
-names-len-requires c κs = search needs
-
-add-put16 : tie.Need-add-put16
-add-put16 c = search needs
-
 cast-put16 : tie.Need-cast-put16
 cast-put16 c = omega (arith, c .names-len .ensures, c .before .before .pre .0, length-padded (flat ended (map now (c .before .before .args .names .now))))
-
-put16-requires : tie.Need-put16-requires
-put16-requires c κs = search needs
-
-add-put-names : tie.Need-add-put-names
-add-put-names c = search needs
 
 put-names-requires : tie.Need-put-names-requires
 put-names-requires c κs = omega (arith, c .before .before .before .before .before .before .before .pre .1, length-padded (flat ended (map now (c .before .before .before .before .before .before .before .args .names .now))))
 
-put-pad-requires : tie.Need-put-pad-requires
-put-pad-requires c κs = search needs
-
 add-result : tie.Need-add-result
 add-result c = omega (arith, c .before .before .before .before .before .before .put-names .ensures .0, c .before .before .before .before .before .before .before .before .before .before .before .before .names-len .ensures, c .before .before .before .before .before .before .before .before .before .before .before .before .before .before .pre .0, c .before .before .before .before .before .before .before .before .before .before .before .before .before .before .pre .1, length-padded (flat ended (map now (c .before .before .before .before .before .before .before .before .before .before .before .before .before .before .args .names .now))))
-
-same-length : tie.Need-same-length
-same-length c = search needs
 
 returns : tie.Need-returns
 returns c =
@@ -59,13 +41,13 @@ pub put-table-spec : {M : Type 1} → statement M
 put-table-spec =
     tie.close
     (tie.spec
-    names-len-requires
-    add-put16
+    (λ c κs. search needs)
+    (λ c. search needs)
     cast-put16
-    put16-requires
-    add-put-names
+    (λ c κs. search needs)
+    (λ c. search needs)
     put-names-requires
-    put-pad-requires
+    (λ c κs. search needs)
     add-result
-    same-length
+    (λ c. search needs)
     returns)

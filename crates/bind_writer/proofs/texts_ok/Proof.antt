@@ -26,30 +26,12 @@ abbrev μ-loop : tie.MeasureT-loop
 loop-holds : tie.Need-loop-holds Inv-loop μ-loop
 loop-holds c = (omega arith, λ cs p q. refl)
 
-mul-type-text : tie.Need-mul-type-text Inv-loop μ-loop
-mul-type-text c = search needs
-
-shared-slice-copy-out-type-text : tie.Need-shared-slice-copy-out-type-text Inv-loop μ-loop
-shared-slice-copy-out-type-text c = search needs
-
-mul-name : tie.Need-mul-name Inv-loop μ-loop
-mul-name c = search needs
-
-shared-slice-copy-out-name : tie.Need-shared-slice-copy-out-name Inv-loop μ-loop
-shared-slice-copy-out-name c = search needs
-
-type-ok-requires : tie.Need-type-ok-requires Inv-loop μ-loop
-type-ok-requires c κs = search needs
-
 returns : tie.Need-returns Inv-loop μ-loop
 returns c =
     let a = c .before .before .before .before .before .before .args in
     let l = c .before .before .before .before .before .loop in
     let g = c .before .type-ok in
     λ cs p q. sym (l .inv .1 cs p q ∙ texts-type (a .types .now) (l .i) (omega arith) cs p (a .names .now) q (sym (g .ensures) ∙ not-true (g .result) (c .if1 .taken)))
-
-is-text-requires : tie.Need-is-text-requires Inv-loop μ-loop
-is-text-requires c κs = search needs
 
 returns-2 : tie.Need-returns-2 Inv-loop μ-loop
 returns-2 c =
@@ -58,12 +40,6 @@ returns-2 c =
     let g = c .before .before .before .type-ok in
     let n = c .before .is-text in
     λ cs p q. sym (l .inv .1 cs p q ∙ texts-name (a .types .now) (l .i) (omega arith) cs p (a .names .now) q (sym (g .ensures) ∙ not-false (g .result) (c .before .before .if1 .left)) (sym (n .ensures) ∙ not-true (n .result) (c .if2 .taken)))
-
-add-i : tie.Need-add-i Inv-loop μ-loop
-add-i c = search needs
-
-loop-less : tie.Need-loop-less Inv-loop μ-loop
-loop-less c = search needs
 
 loop-again : tie.Need-loop-again Inv-loop μ-loop
 loop-again c =
@@ -87,15 +63,15 @@ texts-ok-spec =
     Inv-loop
     μ-loop
     loop-holds
-    mul-type-text
-    shared-slice-copy-out-type-text
-    mul-name
-    shared-slice-copy-out-name
-    type-ok-requires
+    (λ c. search needs)
+    (λ c. search needs)
+    (λ c. search needs)
+    (λ c. search needs)
+    (λ c κs. search needs)
     returns
-    is-text-requires
+    (λ c κs. search needs)
     returns-2
-    add-i
-    loop-less
+    (λ c. search needs)
+    (λ c. search needs)
     loop-again
     returns-3)

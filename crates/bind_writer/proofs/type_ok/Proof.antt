@@ -12,11 +12,8 @@ use Rattle.bind_writer.proofs.type_ok.Tie as tie
 returns : tie.Need-returns
 returns c = ap (λ (b : Bool). b && isText (c .before .before .args .type-text .now)) (sym (lt-leb (length (c .before .before .args .type-text .now)) 12 (omega arith)))
 
-is-text-requires : tie.Need-is-text-requires
-is-text-requires c κs = search needs
-
 returns-2 : tie.Need-returns-2
 returns-2 c = c .is-text .ensures ∙ ap (λ (b : Bool). b && isText (c .before .before .before .args .type-text .now)) (sym (le-leb (length (c .before .before .before .args .type-text .now)) 12 (omega arith)))
 
 pub type-ok-spec : {M : Type 1} → statement M
-type-ok-spec = tie.close (tie.spec returns is-text-requires returns-2)
+type-ok-spec = tie.close (tie.spec returns (λ c κs. search needs) returns-2)

@@ -14,9 +14,6 @@ use Rattle.bind_writer.proofs.Laws.Faults.{by-lists, by-children, by-ro
 use Rattle.bind_writer.proofs.write_fault.Statement.{statement}
 use Rattle.bind_writer.proofs.write_fault.Tie as tie
 
-lists-ok-requires : tie.Need-lists-ok-requires
-lists-ok-requires c κs = search needs
-
 returns : tie.Need-returns
 returns c =
     let a = c .before .before .args in
@@ -65,7 +62,7 @@ pub write-fault-spec : {M : Type 1} → statement M
 write-fault-spec =
     tie.close
     (tie.spec
-    lists-ok-requires
+    (λ c κs. search needs)
     returns
     first-fault-requires
     returns-2

@@ -3,14 +3,14 @@
 use Prim.Native.Nat.{ℕ, _+_, _-_, _<_, _≤_}
 use mathlib.Core.Path.{_≡_, refl, sym, ap, _∙_}
 use mathlib.Core.Bool.{true}
-use mathlib.Core.List.{List, []}
+use mathlib.Core.List.{[]}
 use native.Mathlib.Omega.{arith}
-use lib.ListN.{length, take}
+use lib.ListN.{length}
 use lib.Seq.{sets}
 use borrow.Author.Needs.{needs}
 use Rattle.fields.specs.declared.Checked.{Checked}
 use Rattle.fields.specs.Bytes.{same}
-use Rattle.bind_layout.specs.BindLayout.{dataOk, layoutFault, childCount, headers, dataOf}
+use Rattle.bind_layout.specs.BindLayout.{dataOk, layoutFault, headers}
 use Rattle.bind_layout.proofs.Laws.Read.{data-shorter, layout-data}
 use Rattle.content.proofs.Laws.ChildrenWalk.{layout-number}
 use Rattle.cleaning.specs.CleanBytes.{cleanDatas, cleanBind}

@@ -1,12 +1,11 @@
 -- The cleaned bytes of a well formed content are those of the content with its rests zeroed.
-use Prim.Native.Nat.{ℕ, zero, suc, _+_, _-_, _*_, _%_, _≤_}
+use Prim.Native.Nat.{ℕ, zero, suc, _+_, _-_, _%_, _≤_}
 use mathlib.Core.Path.{_≡_, refl, sym, ap, ap₂, _∙_}
-use mathlib.Core.Bool.{Bool, true, false, cond}
+use mathlib.Core.Bool.{Bool, false, cond}
 use mathlib.Core.List.{List, [], _∷_, _++_, map, append-assoc}
 use native.Mathlib.Omega.{arith}
-use lib.Dec.{eqb}
-use lib.ListN.{length, take, drop, replicate, length-append, length-replicate}
-use lib.Seq.{sets, sets-eq, take-at, drop-at}
+use lib.ListN.{length, take, drop, replicate}
+use lib.Seq.{sets-eq}
 use borrow.Author.Tests.{eq-eqb}
 use Rattle.fields.specs.Bytes.{part, same}
 use Rattle.fields.specs.Lists.{Each, flat}
@@ -23,8 +22,8 @@ use Rattle.bind_layout.proofs.Laws.Children.{header-type, header-size, header-b
 use Rattle.bind_layout.proofs.Laws.Written.{encode-front, count-bytes, headers-written, count-written, table-bytes, data-of-written, layout-written}
 use Rattle.content.specs.Kinds.{bindText}
 use Rattle.content.specs.Tree.{Content, Children, transform, position, image, bind, other, none, more, typeText, encode, childList, WellFormed, WellChildren, cleaned, cleanedChildren}
-use Rattle.content.proofs.Laws.Cleaned.{cleaned-type, length-cleaned}
-use Rattle.cleaning.specs.CleanBytes.{cleanHeaders, cleanFront, cleanAs, cleanDatas, cleanBind, cleanBytes, boundedLevels, cleanPut}
+use Rattle.content.proofs.Laws.Cleaned.{cleaned-type}
+use Rattle.cleaning.specs.CleanBytes.{cleanHeaders, cleanFront, cleanAs, cleanDatas, cleanBind, cleanBytes, boundedLevels}
 use Rattle.cleaning.specs.CleaningTheorems.{CleaningTheorems}
 use Rattle.cleaning.proofs.Laws.Lengths.{Keeps, length-as, length-bind, length-clean}
 use Rattle.cleaning.proofs.Laws.CleaningWalk.{put-fits, put-short}

@@ -12,20 +12,8 @@ use Rattle.cleaning.proofs.put_clean.Tie as tie
 returns : tie.Need-returns
 returns c = let a = c .before .before .before .before .args in sym (put-short (a .levels) (a .type-text .now) (a .content .now) (a .at) (a .out .now) (omega arith))
 
-sub-if2 : tie.Need-sub-if2
-sub-if2 c = search needs
-
 returns-2 : tie.Need-returns-2
 returns-2 c = let a = c .before .before .before .before .before .args in sym (put-short (a .levels) (a .type-text .now) (a .content .now) (a .at) (a .out .now) (omega arith))
-
-bounded-levels-requires : tie.Need-bounded-levels-requires
-bounded-levels-requires c κs = search needs
-
-put-content-requires : tie.Need-put-content-requires
-put-content-requires c κs = search needs
-
-same-length : tie.Need-same-length
-same-length c = search needs
 
 returns-3 : tie.Need-returns-3
 returns-3 c =
@@ -35,4 +23,4 @@ returns-3 c =
     ∙ sym (put-fits (a .levels) (a .type-text .now) (a .content .now) (a .at) (a .out .now) (omega arith))
 
 pub put-clean-spec : {M : Type 1} → statement M
-put-clean-spec = tie.close (tie.spec returns sub-if2 returns-2 bounded-levels-requires put-content-requires same-length returns-3)
+put-clean-spec = tie.close (tie.spec returns (λ c. search needs) returns-2 (λ c κs. search needs) (λ c κs. search needs) (λ c. search needs) returns-3)

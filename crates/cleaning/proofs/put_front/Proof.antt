@@ -1,6 +1,5 @@
 -- `cleaning::put_front` meets its contract: three runs of bytes are one.
-use Prim.Native.Nat.{ℕ, _+_, _*_, _≤_}
-use mathlib.Core.Path.{_≡_, ap, sym, _∙_}
+use mathlib.Core.Path.{_≡_, ap, _∙_}
 use native.Mathlib.Omega.{arith}
 use lib.ListN.{length, length-drop}
 use borrow.Author.Needs.{needs}
@@ -11,30 +10,6 @@ use Rattle.cleaning.proofs.Laws.CleaningWalk.{front-walk}
 use Rattle.cleaning.proofs.put_front.Statement.{statement}
 use Rattle.cleaning.proofs.put_front.Tie as tie
 
-child-count-requires : tie.Need-child-count-requires
-child-count-requires c κs = search needs
-
-after-headers-requires : tie.Need-after-headers-requires
-after-headers-requires c κs = search needs
-
-be16-requires : tie.Need-be16-requires
-be16-requires c κs = search needs
-
-cast-table-size : tie.Need-cast-table-size
-cast-table-size c = search needs
-
-first-requires : tie.Need-first-requires
-first-requires c κs = search needs
-
-put-requires : tie.Need-put-requires
-put-requires c κs = search needs
-
-headers-requires : tie.Need-headers-requires
-headers-requires c κs = search needs
-
-add-put-headers : tie.Need-add-put-headers
-add-put-headers c = search needs
-
 put-headers-requires : tie.Need-put-headers-requires
 put-headers-requires c κs =
     let s = c .before .before .before .before .before .before .before .before .before .before .before .before .args .content .now in
@@ -44,26 +19,11 @@ put-headers-requires c κs =
     let k = c .before .before .before .before .put .kept .1 .1 .0 in
     (omega (arith, l, n, h), omega (arith, l, n, k, c .before .before .before .before .before .before .before .before .before .before .before .before .pre .1))
 
-add-first : tie.Need-add-first
-add-first c = search needs
-
-first-requires-2 : tie.Need-first-requires-2
-first-requires-2 c κs = search needs
-
-add-put : tie.Need-add-put
-add-put c = search needs
-
 mul-put : tie.Need-mul-put
 mul-put c = omega (arith, layout-fits (c .before .before .before .before .before .before .before .before .before .before .before .before .before .before .before .before .args .content .now) (c .before .before .before .before .before .before .before .before .before .before .before .before .before .before .before .before .pre .0), c .before .before .before .before .before .before .before .before .before .before .before .before .before .child-count .ensures, c .before .before .before .before .before .before .before .before .before .before .before .before .before .before .before .before .pre .1)
 
 add-put-2 : tie.Need-add-put-2
 add-put-2 c = omega (arith, layout-fits (c .before .before .before .before .before .before .before .before .before .before .before .before .before .before .before .before .args .content .now) (c .before .before .before .before .before .before .before .before .before .before .before .before .before .before .before .before .pre .0), c .before .before .before .before .before .before .before .before .before .before .before .before .before .child-count .ensures, c .before .before .before .before .before .before .before .before .before .before .before .before .before .before .before .before .pre .1)
-
-put-requires-2 : tie.Need-put-requires-2
-put-requires-2 c κs = search needs
-
-same-length : tie.Need-same-length
-same-length c = search needs
 
 returns : tie.Need-returns
 returns c =
@@ -73,20 +33,20 @@ pub put-front-spec : {M : Type 1} → statement M
 put-front-spec =
     tie.close
     (tie.spec
-    child-count-requires
-    after-headers-requires
-    be16-requires
-    cast-table-size
-    first-requires
-    put-requires
-    headers-requires
-    add-put-headers
+    (λ c κs. search needs)
+    (λ c κs. search needs)
+    (λ c κs. search needs)
+    (λ c. search needs)
+    (λ c κs. search needs)
+    (λ c κs. search needs)
+    (λ c κs. search needs)
+    (λ c. search needs)
     put-headers-requires
-    add-first
-    first-requires-2
-    add-put
+    (λ c. search needs)
+    (λ c κs. search needs)
+    (λ c. search needs)
     mul-put
     add-put-2
-    put-requires-2
-    same-length
+    (λ c κs. search needs)
+    (λ c. search needs)
     returns)

@@ -1,13 +1,11 @@
 -- `cleaning::put_headers` meets its contract. The loop's invariant: all is written once the headers left are.
-use Prim.Native.Nat.{ℕ, _+_, _*_, _-_, _≤_}
+use Prim.Native.Nat.{_+_, _*_, _-_, _≤_}
 use mathlib.Core.Path.{_≡_, refl, ap, sym, _∙_}
-use mathlib.Core.List.{List}
 use native.Mathlib.Omega.{arith}
 use lib.ListN.{length, length-drop}
 use lib.Seq.{sets}
 use borrow.Author.Needs.{needs}
 use Rattle.fields.specs.Bytes.{part}
-use Rattle.fields.specs.Text.{textBytes}
 use Rattle.cleaning.specs.CleanBytes.{cleanHeaders}
 use Rattle.cleaning.proofs.Laws.CleaningWalk.{headers-end, headers-walk}
 use Rattle.cleaning.proofs.put_headers.Statement.{statement}
@@ -26,32 +24,11 @@ abbrev μ-loop : tie.MeasureT-loop
 loop-holds : tie.Need-loop-holds Inv-loop μ-loop
 loop-holds c = (refl, refl, refl, c .before .before .pre .0)
 
-type-of-requires : tie.Need-type-of-requires Inv-loop μ-loop
-type-of-requires c κs = search needs
-
-put-text12-requires : tie.Need-put-text12-requires Inv-loop μ-loop
-put-text12-requires c κs = search needs
-
-part-requires : tie.Need-part-requires Inv-loop μ-loop
-part-requires c κs = search needs
-
 add-put : tie.Need-add-put Inv-loop μ-loop
 add-put c = omega (arith, c .before .before .before .before .before .before .before .loop .inv .2, c .before .before .before .before .before .before .before .before .before .before .pre .1)
 
-put-requires : tie.Need-put-requires Inv-loop μ-loop
-put-requires c κs = search needs
-
-rest-requires : tie.Need-rest-requires Inv-loop μ-loop
-rest-requires c κs = search needs
-
 add-to : tie.Need-add-to Inv-loop μ-loop
 add-to c = omega (arith, c .before .before .before .before .before .before .before .before .before .before .before .before .loop .inv .2, c .before .before .before .before .before .before .before .before .before .before .before .before .before .before .before .pre .1)
-
-sub-left : tie.Need-sub-left Inv-loop μ-loop
-sub-left c = search needs
-
-loop-less : tie.Need-loop-less Inv-loop μ-loop
-loop-less c = search needs
 
 loop-again : tie.Need-loop-again Inv-loop μ-loop
 loop-again c =
@@ -79,15 +56,15 @@ put-headers-spec =
     Inv-loop
     μ-loop
     loop-holds
-    type-of-requires
-    put-text12-requires
-    part-requires
+    (λ c κs. search needs)
+    (λ c κs. search needs)
+    (λ c κs. search needs)
     add-put
-    put-requires
-    rest-requires
+    (λ c κs. search needs)
+    (λ c κs. search needs)
     add-to
-    sub-left
-    loop-less
+    (λ c. search needs)
+    (λ c. search needs)
     loop-again
     same-length
     returns)

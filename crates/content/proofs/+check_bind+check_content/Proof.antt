@@ -11,8 +11,8 @@ use Rattle.fields.specs.declared.Checked.{Checked}
 use Rattle.fields.specs.Answer.{checked}
 use Rattle.fields.proofs.Laws.Checks.{and-assoc, and-true}
 use Rattle.bind_layout.proofs.Laws.Read.{data-shorter}
-use Rattle.content.specs.declared.Kind.the-variants.{Transform, Position, Image, Bind, Other}
-use Rattle.content.specs.ContentCheck.{childrenFault, bindFault, childrenClean, bindClean, contentChecked, bindChecked}
+use Rattle.content.specs.declared.Kind.the-variants.{Transform, Position, Image, Other}
+use Rattle.content.specs.ContentCheck.{childrenFault, bindFault, childrenClean, bindClean, contentChecked}
 use Rattle.content.proofs.Laws.ChildrenWalk.{kind-checked, kind-bound, bind-none-left, bind-walk, children-end, children-stop, children-next, bind-refused, bind-passed, bind-mark, layout-number, layout-stop, marks-end, marks-next, child-fault, child-stop}
 use borrow.Author.Needs.{needs}
 use borrow.Fn.Kinds.{In}

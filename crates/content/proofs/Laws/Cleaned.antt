@@ -7,7 +7,7 @@ use lib.ListN.{length, length-append}
 use Rattle.fields.specs.Lists.{Each, flat}
 use Rattle.fields.proofs.Laws.Received.{zeroed-fills, zeroed-zeroed}
 use Rattle.fields.specs.Received.{zeroed, Fills}
-use Rattle.bind_layout.specs.Children.{Child, padded, childName, childData, nameTable, encodeChildren, WellChild, WellBundle}
+use Rattle.bind_layout.specs.Children.{padded, childName, childData, nameTable, WellChild}
 use Rattle.bind_layout.proofs.Laws.Children.{length-padded}
 use Rattle.bind_layout.proofs.Laws.Written.{length-encode, data-front}
 use Rattle.content.specs.Tree.{Content, Children, transform, position, image, bind, other, none, more, typeText, encode, childList, WellFormed, WellChildren, RestsFill, AllFill, cleaned, cleanedChildren, IsClean, AllClean}

@@ -3,13 +3,14 @@ use mathlib.Core.Path.{_≡_, refl, sym, ap, ap₂, subst, _∙_}
 use mathlib.Core.List.{List, [], _∷_}
 use Prim.Native.Nat.{ℕ, zero, suc, _+_, _*_}
 use native.Mathlib.Omega.{arith}
+use Rattle.fields.specs.Formats.{IsWritten}
 use Rattle.fields.specs.Bytes.{Bytes, same}
 use Rattle.fields.specs.Lists.{Each}
 use Rattle.fields.proofs.Laws.Bytes.{bytes-drop}
 use Rattle.fields.proofs.Laws.Checks.{zero-else}
 use Rattle.pose.specs.Words.{wordBytes}
-use Rattle.pose.proofs.Laws.{transform-accepted, transform-well, position-accepted, position-well, words-unique}
-use Rattle.image.proofs.Laws.{image-accepted, image-well, image-unique}
+use Rattle.pose.proofs.Laws.{transform-format, position-format}
+use Rattle.image.proofs.Laws.{image-format}
 use Rattle.bind_layout.specs.Children.{Child, encodeChildren, WellBundle}
 use Rattle.bind_layout.specs.BindLayout.{childCount, headers, afterHeaders, tableSize, tableOf, dataOf, layoutFault}
 use Rattle.bind_layout.proofs.Laws.Children.{childrenOf, bytes-children}
@@ -19,7 +20,7 @@ use Rattle.content.specs.declared.Kind.the-variants.{Transform, Position
 use Rattle.content.specs.Kinds.{bindText}
 use Rattle.content.specs.Tree.{Content, Children, transform, position, image, bind, other, none, more, typeText, encode, childList, WellFormed, WellChildren}
 use Rattle.content.specs.ContentCheck.{childrenFault, bindFault, contentFault}
-use Rattle.content.specs.ContentTheorems.{IsContent}
+use Rattle.content.specs.ContentTheorems.{WellOf}
 use Rattle.content.proofs.Laws.Kinds.{View, is-transform, is-position, is-image, is-bind, is-other, view, differ}
 use Rattle.content.proofs.Laws.Faults.{childFault, none-faulty, all-faultless, bind-children, bind-written, content-numbers}
 use Rattle.content.proofs.Laws.ChildrenWalk.{kind-fault, bind-none-left}
@@ -30,9 +31,9 @@ mutual
   unfolding WellFormed encode
 
   pub content-well : (levels : ℕ) (x : Content) → WellFormed x levels → contentFault levels (typeText x) (encode x) ≡ 0
-  content-well levels (transform ws) w = content-numbers .transform levels (wordBytes ws) ∙ transform-well ws w
-  content-well levels (position ws) w = content-numbers .position levels (wordBytes ws) ∙ position-well ws w
-  content-well levels (image x) w = content-numbers .image levels _ ∙ image-well x w
+  content-well levels (transform ws) w = content-numbers .transform levels (wordBytes ws) ∙ transform-format .well-accepted ws w
+  content-well levels (position ws) w = content-numbers .position levels (wordBytes ws) ∙ position-format .well-accepted ws w
+  content-well levels (image x) w = content-numbers .image levels _ ∙ image-format .well-accepted x w
   content-well zero (bind cs) w = absurd w
   content-well (suc levels) (bind cs) w =
       bind-written levels (childList cs) (w .0) ∙ all-faultless (childFault levels) (childList cs) (children-well levels cs (w .1))
@@ -48,6 +49,10 @@ mutual
 abbrev ChildrenFor : ℕ → List Child → Type 0
 ChildrenFor levels cs = (xs : Children) × (childList xs ≡ cs) × WellChildren xs levels
 
+-- some well formed content of this type, with so many levels left, is written as these bytes
+abbrev pub IsContent : ℕ → List ℕ → List ℕ → Type 0
+IsContent levels t s = IsWritten (WellOf levels t) encode s
+
 -- what a judge of contents with so many levels left is to show
 abbrev Judges : ℕ → Type 0
 Judges levels = (t s : List ℕ) → Bytes s → contentFault levels t s ≡ 0 → IsContent levels t s
@@ -58,9 +63,9 @@ trees levels judge [] b e = (none, refl, tt)
 trees levels judge (c ∷ cs) b e =
     let x = judge (c .typeText) (c .content) (b .0) (e .0) in
     let r = trees levels judge cs (b .1) (e .1) in (
-      more (c .rest) (c .name) (x .content) (r .0),
-      (λ i. record { typeText = x .type i; rest = c .rest; name = c .name; content = x .bytes i } ∷ r .1 i),
-      (x .well, r .2),
+      more (c .rest) (c .name) (x .0) (r .0),
+      (λ i. record { typeText = x .1 .1 i; rest = c .rest; name = c .name; content = x .2 i } ∷ r .1 i),
+      (x .1 .0, r .2),
     )
 
 bind-accepted : (levels : ℕ) → Judges levels → (s : List ℕ) → Bytes s → bindFault (suc levels) s ≡ 0 → IsContent (suc levels) bindText s
@@ -69,29 +74,27 @@ bind-accepted levels judge s b e =
     let h = zero-else (layoutFault s) (childrenFault (bindFault levels) (childCount s) (headers s) (dataOf s)) e .0 in
     let d = bytes-drop (2 + tableSize s) (afterHeaders s) (bytes-drop (2 + 20 * childCount s) s b) in
     let f = none-faulty (childFault levels) (childrenOf s) (sym (bind-children levels s h) ∙ e) in
-    let r = trees levels judge (childrenOf s) (bytes-children (childCount s) (headers s) (tableOf s) (dataOf s) d) f in
-    record {
-      content = bind (r .0);
-      type = refl;
-      well = (subst WellBundle (sym (r .1)) (well-children s h b), r .2);
-      bytes = ap encodeChildren (r .1) ∙ encode-read s h b;
-    }
+    let r = trees levels judge (childrenOf s) (bytes-children (childCount s) (headers s) (tableOf s) (dataOf s) d) f in (
+      bind (r .0),
+      ((subst WellBundle (sym (r .1)) (well-children s h b), r .2), refl),
+      ap encodeChildren (r .1) ∙ encode-read s h b,
+    )
 
 -- by the kind of the type, where the BIND is judged by `below`
 by-kind : (levels : ℕ) (t s : List ℕ) → Bytes s → (bindFault levels s ≡ 0 → IsContent levels bindText s) → contentFault levels t s ≡ 0 → View t
     → IsContent levels t s
 unfolding WellFormed encode
 by-kind levels t s b below e (is-transform p k) =
-    let r = transform-accepted s b (sym (kind-fault levels t s Transform k) ∙ e) in
-    record { content = transform (r .0); type = sym p; well = r .1; bytes = r .2 }
+    let r = transform-format .accepted s b (sym (kind-fault levels t s Transform k) ∙ e) in
+    (transform (r .0), (r .1, sym p), r .2)
 by-kind levels t s b below e (is-position p k) =
-    let r = position-accepted s b (sym (kind-fault levels t s Position k) ∙ e) in
-    record { content = position (r .0); type = sym p; well = r .1; bytes = r .2 }
+    let r = position-format .accepted s b (sym (kind-fault levels t s Position k) ∙ e) in
+    (position (r .0), (r .1, sym p), r .2)
 by-kind levels t s b below e (is-image p k) =
-    let r = image-accepted s b (sym (kind-fault levels t s Image k) ∙ e) in
-    record { content = image (r .0); type = sym p; well = r .1; bytes = r .2 }
+    let r = image-format .accepted s b (sym (kind-fault levels t s Image k) ∙ e) in
+    (image (r .0), (r .1, sym p), r .2)
 by-kind levels t s b below e (is-bind p k) = subst (λ (u : List ℕ). IsContent levels u s) (sym p) (below (sym (kind-fault levels t s Bind k) ∙ e))
-by-kind levels t s b below e (is-other o k) = record { content = other t s; type = refl; well = (o, b); bytes = refl }
+by-kind levels t s b below e (is-other o k) = (other t s, ((o, b), refl), refl)
 
 pub content-accepted : (levels : ℕ) → Judges levels
 content-accepted zero t s b e = by-kind 0 t s b (λ z. absurd (let n : _≡_ {A = ℕ} 11 0 = sym (bind-none-left 0 s refl) ∙ z in omega arith)) e (view t)
@@ -109,9 +112,9 @@ mutual
   unfolding WellFormed encode same
 
   pub content-unique : (l m : ℕ) (x y : Content) → WellFormed x l → WellFormed y m → typeText x ≡ typeText y → encode x ≡ encode y → x ≡ y
-  content-unique l m (transform ws) (transform vs) v w t e = ap transform (words-unique ws vs (v .words) (w .words) e)
-  content-unique l m (position ws) (position vs) v w t e = ap position (words-unique ws vs (v .words) (w .words) e)
-  content-unique l m (image x) (image y) v w t e = ap image (image-unique x y v w e)
+  content-unique l m (transform ws) (transform vs) v w t e = ap transform (transform-format .only-one ws vs v w e)
+  content-unique l m (position ws) (position vs) v w t e = ap position (position-format .only-one ws vs v w e)
+  content-unique l m (image x) (image y) v w t e = ap image (image-format .only-one x y v w e)
   content-unique zero m (bind xs) (bind ys) v w t e = absurd v
   content-unique (suc l) zero (bind xs) (bind ys) v w t e = absurd w
   content-unique (suc l) (suc m) (bind xs) (bind ys) v w t e =

@@ -20,7 +20,7 @@ use Rattle.content.specs.declared.Kind.the-variants.{Transform, Position
 use Rattle.content.specs.Kinds.{transformText, positionText, imageText, bindText, kindOf}
 use Rattle.content.specs.ContentCheck.{kindFault, childrenFault, bindFault, contentFault}
 use Rattle.content.specs.ContentTheorems.{firstFault, ContentNumbers}
-use Rattle.content.proofs.Laws.ChildrenWalk.{kind-fault, bind-none-left}
+use Rattle.content.proofs.Laws.ChildrenWalk.{kind-fault, kind-bound, bind-none-left}
 use Rattle.content.proofs.Laws.Kinds.{kind-transform, kind-position, kind-image, kind-bind, kind-other}
 
 -- the fault of one child
@@ -87,7 +87,7 @@ bind-written levels cs w =
 bind-layout : (levels : ℕ) (s : List ℕ) → Bytes s → (IsBundle s → ⊥) → contentFault (suc levels) bindText s ≡ 10
 unfolding bindFault
 bind-layout levels s b n =
-    let e = bundle-theorems .refused s b n in
+    let e = bundle-theorems .two-way .refused s b n in
     bind-content (suc levels) s
     ∙ ap (λ (k : ℕ). orElse k (childrenFault (bindFault levels) (childCount s) (headers s) (dataOf s))) e
 
@@ -104,4 +104,6 @@ content-numbers =
       too-deep = bind-too-deep;
       layout = bind-layout;
       children = bind-written;
+      lent-bind = λ levels s. sym (bind-content levels s);
+      lent-mark = λ levels s. sym (kind-bound levels bindText s kind-bind);
     }

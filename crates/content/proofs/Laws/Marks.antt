@@ -1,19 +1,19 @@
 -- The mark of a content: it is true exactly when every rest in the tree is zeros.
-use mathlib.Core.Path.{_≡_, refl, sym, ap, ap₂, _∙_}
+use mathlib.Core.Path.{_≡_, refl, sym, ap, _∙_}
+use mathlib.Core.Logic.{_↔_}
 use mathlib.Core.Bool.{Bool, true, false, _&&_}
-use mathlib.Core.List.{List, [], _∷_}
+use mathlib.Core.List.{List}
 use Prim.Native.Nat.{ℕ, zero, suc}
 use lib.ListN.{take, drop}
 use Rattle.fields.specs.Lists.{allOf, Each}
 use Rattle.fields.specs.Text.{pastText}
-use Rattle.fields.specs.Answer.{checked}
 use Rattle.fields.proofs.Laws.Answer.{checked-mark, checked-false}
-use Rattle.fields.proofs.Laws.Checks.{and-split, and-join}
+use Rattle.fields.proofs.Laws.Checks.{and-both}
 use Rattle.bind_layout.specs.Children.{Child, encodeChildren, WellBundle, CleanChild}
 use Rattle.bind_layout.specs.BindLayout.{childCount, headers, tableOf, dataOf, typeOf, sizeOf, afterBlock, typesClean}
-use Rattle.bind_layout.proofs.Laws.Children.{childrenFrom, childrenOf}
+use Rattle.bind_layout.proofs.Laws.Children.{childrenFrom}
 use Rattle.bind_layout.proofs.Laws.Written.{children-written}
-use Rattle.bind_layout.proofs.Laws.Marks.{types-clean-to, types-clean-from}
+use Rattle.bind_layout.proofs.Laws.Marks.{types-clean}
 use Rattle.content.specs.declared.Kind.{Kind}
 use Rattle.content.specs.declared.Kind.the-variants.{Transform, Position, Image, Bind, Other}
 use Rattle.content.specs.Kinds.{kindOf, bindText, transformText, positionText, imageText}
@@ -47,48 +47,34 @@ bind-marks levels cs w =
     kind-clean (suc levels) bindText s Bind kind-bind
     ∙ ap (λ (b : Bool). typesClean (childCount s) (headers s) && b) (marks-list levels (childCount s) (headers s) (tableOf s) (dataOf s) ∙ ap (allOf (childClean levels)) (children-written cs w))
 
-mutual
-  unfolding WellFormed encode IsClean allOf
+-- the contents of the children are clean
+abbrev InsideClean : Children → Type 0
+InsideClean none = Unit {0}
+InsideClean (more rest name x cs) = IsClean x × InsideClean cs
 
-  clean-to : (levels : ℕ) (x : Content) → WellFormed x levels → contentClean levels (typeText x) (encode x) ≡ true → IsClean x
-  clean-to levels (transform ws) w e = tt
-  clean-to levels (position ws) w e = tt
-  clean-to levels (image x) w e = tt
-  clean-to zero (bind cs) w e = absurd w
-  clean-to (suc levels) (bind cs) w e =
-      let s = encodeChildren (childList cs) in
-      let k = and-split (typesClean (childCount s) (headers s)) (allOf (childClean levels) (childList cs)) (sym (bind-marks levels (childList cs) (w .0)) ∙ e) in
-      all-to levels cs (w .1) (types-clean-to (childList cs) (w .0) (k .0)) (k .1)
-  clean-to levels (other t s) w e = tt
-
-  all-to : (levels : ℕ) (cs : Children) → WellChildren cs levels → Each CleanChild (childList cs) → allOf (childClean levels) (childList cs) ≡ true → AllClean cs
-  all-to levels none w h e = tt
-  all-to levels (more rest name x cs) w h e =
-      let k = and-split (contentClean levels (typeText x) (encode x)) (allOf (childClean levels) (childList cs)) e in
-      (h .0, clean-to levels x (w .0) (k .0), all-to levels cs (w .1) (h .1) (k .1))
+-- and the rests of their own CTYPEs
+all-clean : (cs : Children) → (Each CleanChild (childList cs) × InsideClean cs) ↔ AllClean cs
+unfolding encode IsClean
+all-clean none = ((λ e. tt), (λ e. (tt, tt)))
+all-clean (more rest name x cs) = ((λ e. (e .0 .0, e .1 .0, all-clean cs .0 (e .0 .1, e .1 .1))), (λ e. let r = all-clean cs .1 (e .2) in ((e .0, r .0), (e .1, r .1))))
 
 mutual
   unfolding WellFormed encode IsClean allOf
 
-  clean-from : (levels : ℕ) (x : Content) → WellFormed x levels → IsClean x → contentClean levels (typeText x) (encode x) ≡ true
-  clean-from levels (transform ws) w h = kind-clean levels transformText (encode (transform ws)) Transform kind-transform
-  clean-from levels (position ws) w h = kind-clean levels positionText (encode (position ws)) Position kind-position
-  clean-from levels (image x) w h = kind-clean levels imageText (encode (image x)) Image kind-image
-  clean-from zero (bind cs) w h = absurd w
-  clean-from (suc levels) (bind cs) w h =
-      let s = encodeChildren (childList cs) in
-      bind-marks levels (childList cs) (w .0)
-      ∙ and-join (typesClean (childCount s) (headers s)) (allOf (childClean levels) (childList cs)) (types-clean-from (childList cs) (w .0) (rests-from cs h)) (all-from levels cs (w .1) h)
-  clean-from levels (other t s) w h = kind-clean levels t s Other (kind-other t (w .0))
+  content-marked : (levels : ℕ) (x : Content) → WellFormed x levels → (contentClean levels (typeText x) (encode x) ≡ true) ↔ IsClean x
+  content-marked levels (transform ws) w = ((λ e. tt), (λ h. kind-clean levels transformText (encode (transform ws)) Transform kind-transform))
+  content-marked levels (position ws) w = ((λ e. tt), (λ h. kind-clean levels positionText (encode (position ws)) Position kind-position))
+  content-marked levels (image x) w = ((λ e. tt), (λ h. kind-clean levels imageText (encode (image x)) Image kind-image))
+  content-marked zero (bind cs) w = absurd w
+  content-marked (suc levels) (bind cs) w =
+      let k = and-both _ _ (types-clean (childList cs) (w .0)) (all-marked levels cs (w .1)) in
+      let e = bind-marks levels (childList cs) (w .0) in
+      ((λ h. all-clean cs .0 (k .0 (sym e ∙ h))), (λ h. e ∙ k .1 (all-clean cs .1 h)))
+  content-marked levels (other t s) w = ((λ e. tt), (λ h. kind-clean levels t s Other (kind-other t (w .0))))
 
-  rests-from : (cs : Children) → AllClean cs → Each CleanChild (childList cs)
-  rests-from none h = tt
-  rests-from (more rest name x cs) h = (h .0, rests-from cs (h .2))
-
-  all-from : (levels : ℕ) (cs : Children) → WellChildren cs levels → AllClean cs → allOf (childClean levels) (childList cs) ≡ true
-  all-from levels none w h = refl
-  all-from levels (more rest name x cs) w h =
-      and-join (contentClean levels (typeText x) (encode x)) (allOf (childClean levels) (childList cs)) (clean-from levels x (w .0) (h .1)) (all-from levels cs (w .1) (h .2))
+  all-marked : (levels : ℕ) (cs : Children) → WellChildren cs levels → (allOf (childClean levels) (childList cs) ≡ true) ↔ InsideClean cs
+  all-marked levels none w = ((λ e. tt), (λ e. refl))
+  all-marked levels (more rest name x cs) w = and-both _ _ (content-marked levels x (w .0)) (all-marked levels cs (w .1))
 
 -- ---- in the answer
 
@@ -98,10 +84,10 @@ module _ (levels : ℕ) (x : Content) (w : WellFormed x levels) where
   content-mark = checked-mark (contentFault levels (typeText x) (encode x)) (contentClean levels (typeText x) (encode x)) (content-well levels x w)
 
   pub mark-to : contentChecked levels (typeText x) (encode x) .clean ≡ true → IsClean x
-  mark-to e = clean-to levels x w (sym content-mark ∙ e)
+  mark-to e = content-marked levels x w .0 (sym content-mark ∙ e)
 
   pub mark-from : IsClean x → contentChecked levels (typeText x) (encode x) .clean ≡ true
-  mark-from h = content-mark ∙ clean-from levels x w h
+  mark-from h = content-mark ∙ content-marked levels x w .1 h
 
 pub no-mark : (levels : ℕ) (t s : List ℕ) → (contentFault levels t s ≡ 0 → ⊥) → contentChecked levels t s .clean ≡ false
 unfolding contentChecked

@@ -6,11 +6,8 @@ use Rattle.content.proofs.Laws.ChildrenWalk.{bind-fault}
 use Rattle.content.proofs.bind_fault.Statement.{statement}
 use Rattle.content.proofs.bind_fault.Tie as tie
 
-bind-check-requires : tie.Need-bind-check-requires
-bind-check-requires c κs = search needs
-
 returns : tie.Need-returns
 returns c = ap (λ (x : Checked). x .number) (c .bind-check .ensures) ∙ bind-fault _ _
 
 pub bind-fault-spec : {M : Type 1} → statement M
-bind-fault-spec = tie.close (tie.spec bind-check-requires returns)
+bind-fault-spec = tie.close (tie.spec (λ c κs. search needs) returns)

@@ -6,11 +6,8 @@ use Rattle.content.proofs.Laws.ChildrenWalk.{content-fault}
 use Rattle.content.proofs.content_fault.Statement.{statement}
 use Rattle.content.proofs.content_fault.Tie as tie
 
-content-check-requires : tie.Need-content-check-requires
-content-check-requires c κs = search needs
-
 returns : tie.Need-returns
 returns c = ap (λ (x : Checked). x .number) (c .content-check .ensures) ∙ content-fault _ _ _
 
 pub content-fault-spec : {M : Type 1} → statement M
-content-fault-spec = tie.close (tie.spec content-check-requires returns)
+content-fault-spec = tie.close (tie.spec (λ c κs. search needs) returns)

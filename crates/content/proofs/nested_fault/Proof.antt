@@ -6,11 +6,8 @@ use Rattle.content.proofs.Laws.ChildrenWalk.{content-fault}
 use Rattle.content.proofs.nested_fault.Statement.{statement}
 use Rattle.content.proofs.nested_fault.Tie as tie
 
-check-content-requires : tie.Need-check-content-requires
-check-content-requires c κs = search needs
-
 returns : tie.Need-returns
 returns c = ap (λ (x : Checked). x .number) (c .check-content .ensures) ∙ content-fault _ _ _
 
 pub nested-fault-spec : {M : Type 1} → statement M
-nested-fault-spec = tie.close (tie.spec check-content-requires returns)
+nested-fault-spec = tie.close (tie.spec (λ c κs. search needs) returns)

@@ -25,9 +25,6 @@ sub-shift c = omega arith
 shr-bit-step : tie.Need-shr-bit-step Inv-loop μ-loop
 shr-bit-step c = omega arith
 
-bit-step-requires : tie.Need-bit-step-requires Inv-loop μ-loop
-bit-step-requires c κs = search needs
-
 add-i : tie.Need-add-i Inv-loop μ-loop
 add-i c = omega arith
 
@@ -59,7 +56,7 @@ byte-step-spec =
     loop-holds
     sub-shift
     shr-bit-step
-    bit-step-requires
+    (λ c κs. search needs)
     add-i
     loop-less
     loop-again

@@ -23,9 +23,6 @@ loop-holds c = (omega arith, refl)
 shared-slice-read-byte-step : tie.Need-shared-slice-read-byte-step Inv-loop μ-loop
 shared-slice-read-byte-step c = omega arith
 
-byte-step-requires : tie.Need-byte-step-requires Inv-loop μ-loop
-byte-step-requires c κs = search needs
-
 add-i : tie.Need-add-i Inv-loop μ-loop
 add-i c = omega arith
 
@@ -54,7 +51,7 @@ crc64-spec =
     μ-loop
     loop-holds
     shared-slice-read-byte-step
-    byte-step-requires
+    (λ c κs. search needs)
     add-i
     loop-less
     loop-again

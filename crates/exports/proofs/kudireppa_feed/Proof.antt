@@ -9,36 +9,6 @@ use Rattle.exports.proofs.Laws.{total-opened, buffer-opened, bytes-open
 use Rattle.exports.proofs.kudireppa_feed.Statement.{statement}
 use Rattle.exports.proofs.kudireppa_feed.Tie as tie
 
-layout-of-requires : tie.Need-layout-of-requires
-layout-of-requires c κs = search needs
-
-open-feed-requires : tie.Need-open-feed-requires
-open-feed-requires c κs = search needs
-
-enum-known-opened : tie.Need-enum-known-opened
-enum-known-opened c = search needs
-
-push-all-requires : tie.Need-push-all-requires
-push-all-requires c κs = search needs
-
-kept-len-requires : tie.Need-kept-len-requires
-kept-len-requires c κs = search needs
-
-put-pushed-requires : tie.Need-put-pushed-requires
-put-pushed-requires c κs = search needs
-
-enum-known-opened-2 : tie.Need-enum-known-opened-2
-enum-known-opened-2 c = search needs
-
-put-pushed-requires-2 : tie.Need-put-pushed-requires-2
-put-pushed-requires-2 c κs = search needs
-
-same-length : tie.Need-same-length
-same-length c = search needs
-
-same-length-2 : tie.Need-same-length-2
-same-length-2 c = search needs
-
 returns : tie.Need-returns
 returns c =
     let kept = c .before .before .before .before in
@@ -56,12 +26,6 @@ returns c =
             ∙ ap (sets (a .out .now) 0) (bytes-opened (a .lengths .now) (a .stream .now) (a .buffer .now) _ _ e _ (f .0) _ (kept .kept-len .ensures)),
       ),
     )
-
-same-length-3 : tie.Need-same-length-3
-same-length-3 c = search needs
-
-same-length-4 : tie.Need-same-length-4
-same-length-4 c = search needs
 
 returns-2 : tie.Need-returns-2
 returns-2 c =
@@ -82,17 +46,17 @@ pub kudireppa-feed-spec : {M : Type 1} → statement M
 kudireppa-feed-spec =
     tie.close
     (tie.spec
-    layout-of-requires
-    open-feed-requires
-    enum-known-opened
-    push-all-requires
-    kept-len-requires
-    put-pushed-requires
-    enum-known-opened-2
-    put-pushed-requires-2
-    same-length
-    same-length-2
+    (λ c κs. search needs)
+    (λ c κs. search needs)
+    (λ c. search needs)
+    (λ c κs. search needs)
+    (λ c κs. search needs)
+    (λ c κs. search needs)
+    (λ c. search needs)
+    (λ c κs. search needs)
+    (λ c. search needs)
+    (λ c. search needs)
     returns
-    same-length-3
-    same-length-4
+    (λ c. search needs)
+    (λ c. search needs)
     returns-2)

@@ -24,18 +24,6 @@ abbrev μ-loop : tie.MeasureT-loop
 loop-holds : tie.Need-loop-holds Inv-loop μ-loop
 loop-holds c = (refl, omega arith, refl)
 
-be32-requires : tie.Need-be32-requires Inv-loop μ-loop
-be32-requires c κs = search needs
-
-cast-part : tie.Need-cast-part Inv-loop μ-loop
-cast-part c = search needs
-
-part-requires : tie.Need-part-requires Inv-loop μ-loop
-part-requires c κs = search needs
-
-push-requires : tie.Need-push-requires Inv-loop μ-loop
-push-requires c κs = search needs
-
 add-total : tie.Need-add-total Inv-loop μ-loop
 add-total c =
     let p = c .before .before .before .before .before .before .before .before .before in
@@ -46,9 +34,6 @@ add-total c =
     fed-within (a .stream .now) (record { last = l .last; total = l .total }) (l .buffer) (l .left .now) (piece .result .now) _ _ (c .before .before .before .before .before .before .be32 .ensures) (piece .ensures)
     (c .before .before .before .push .ensures .0) (l .inv .1) in
     omega (arith, k, p .before .before .before .before .good .1 .1 .0)
-
-rest-requires : tie.Need-rest-requires Inv-loop μ-loop
-rest-requires c κs = search needs
 
 loop-less : tie.Need-loop-less Inv-loop μ-loop
 loop-less c =
@@ -86,12 +71,12 @@ push-all-spec =
     Inv-loop
     μ-loop
     loop-holds
-    be32-requires
-    cast-part
-    part-requires
-    push-requires
+    (λ c κs. search needs)
+    (λ c. search needs)
+    (λ c κs. search needs)
+    (λ c κs. search needs)
     add-total
-    rest-requires
+    (λ c κs. search needs)
     loop-less
     loop-again
     same-length

@@ -8,18 +8,6 @@ use Rattle.exports.proofs.push_read.Tie as tie
 enum-told : tie.Need-enum-told
 enum-told c = search needs
 
-refusal-requires : tie.Need-refusal-requires
-refusal-requires c κs = search needs
-
-enum-known-answer : tie.Need-enum-known-answer
-enum-known-answer c = search needs
-
-enum-known-answer-2 : tie.Need-enum-known-answer-2
-enum-known-answer-2 c = search needs
-
-refusal-requires-2 : tie.Need-refusal-requires-2
-refusal-requires-2 c κs = search needs
-
 returns : tie.Need-returns
 returns c = c .refusal .ensures ∙ ap pushRead (sym (c .before .enum-told .given .1))
 
@@ -34,10 +22,10 @@ push-read-spec =
     tie.close
     (tie.spec
     enum-told
-    refusal-requires
-    enum-known-answer
-    enum-known-answer-2
-    refusal-requires-2
+    (λ c κs. search needs)
+    (λ c. search needs)
+    (λ c. search needs)
+    (λ c κs. search needs)
     returns
     returns-2
     returns-3)

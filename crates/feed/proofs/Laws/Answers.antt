@@ -6,7 +6,7 @@ use native.Mathlib.Omega.{arith}
 use lib.ListN.{length, take}
 use lib.Seq.{length-take-le}
 use borrow.Author.Tests.{eq-eqb, ne-eqb}
-use Rattle.header.specs.Check.{headerFault}
+use Rattle.header.specs.HeaderReader.{headerFault}
 use Rattle.header.proofs.Laws.Faults.{fault-passed}
 use Rattle.message.specs.declared.Layout.{Layout}
 use Rattle.message.specs.declared.Answer.{Answer}

@@ -11,7 +11,7 @@ use Rattle.fields.proofs.Laws.Stores.{take-sets, sets-over}
 use Rattle.fields.proofs.Laws.Tests.{cond-yes, cond-no}
 use Rattle.header.specs.Header.{limit}
 use Rattle.header.specs.declared.HeaderRead.{HeaderRead}
-use Rattle.header.specs.Check.{headerOf, headerFault, headerRead}
+use Rattle.header.specs.HeaderReader.{headerOf, headerFault, headerRead}
 use Rattle.header.proofs.Laws.Faults.{fault-passed, header-read-passed, header-read-number}
 use Rattle.message.specs.declared.Layout.{Layout}
 use Rattle.message.specs.MessageReader.{readOf, refused}

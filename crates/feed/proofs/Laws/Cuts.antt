@@ -9,7 +9,7 @@ use lib.ListN.{length, take, length-append}
 use lib.Seq.{take-take, take-length, length-take-le}
 use borrow.Author.Tests.{lt-ltb, le-ltb}
 use Rattle.fields.proofs.Laws.Tests.{true-false, cond-yes, cond-no}
-use Rattle.header.specs.Check.{headerFault}
+use Rattle.header.specs.HeaderReader.{headerFault}
 use Rattle.header.proofs.Laws.Faults.{fault-passed}
 use Rattle.message.specs.declared.Layout.{Layout}
 use Rattle.message.specs.declared.Answer.{Answer}

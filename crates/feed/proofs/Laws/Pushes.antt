@@ -15,7 +15,7 @@ use Rattle.fields.proofs.Laws.Answer.{room-enough, room-fits}
 use Rattle.fields.proofs.Laws.Stores.{sets-before, sets-beyond}
 use Rattle.fields.proofs.Laws.Tests.{cond-yes, cond-no}
 use Rattle.header.specs.Header.{Header}
-use Rattle.header.specs.Check.{headerFault}
+use Rattle.header.specs.HeaderReader.{headerFault}
 use Rattle.header.proofs.Laws.Faults.{fault-passed}
 use Rattle.header.proofs.Laws.Front.{header-front, fault-front}
 use Rattle.message.specs.declared.Answer.{Answer}

@@ -8,7 +8,7 @@ use lib.Dec.{eqb, leb, ltb}
 use lib.ListN.{length, take}
 use borrow.Author.Tests.{leb-true, leb-false, ltb-true, ltb-false, eq-eqb, ne-eqb, le-leb, lt-leb, lt-ltb, le-ltb}
 use Rattle.fields.proofs.Laws.Tests.{by-test, by-zero, cond-yes, cond-no}
-use Rattle.header.specs.Check.{headerFault}
+use Rattle.header.specs.HeaderReader.{headerFault}
 use Rattle.header.proofs.Laws.Faults.{fault-short, fault-passed}
 use Rattle.message.specs.declared.Layout.{Layout}
 use Rattle.message.specs.MessageReader.{readOf, refused}

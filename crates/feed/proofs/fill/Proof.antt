@@ -7,18 +7,6 @@ use borrow.Author.Needs.{needs}
 use Rattle.feed.proofs.fill.Statement.{statement}
 use Rattle.feed.proofs.fill.Tie as tie
 
-missing-requires : tie.Need-missing-requires
-missing-requires c κs = search needs
-
-first-requires : tie.Need-first-requires
-first-requires c κs = search needs
-
-put-requires : tie.Need-put-requires
-put-requires c κs = search needs
-
-same-length : tie.Need-same-length
-same-length c = search needs
-
 returns : tie.Need-returns
 returns c =
     let a = c .before .before .before .before .before .before .before .before .args in
@@ -27,4 +15,4 @@ returns c =
     c .before .before .put .ensures ∙ ap (sets (a .buffer .now) (a .kept)) piece
 
 pub fill-spec : {M : Type 1} → statement M
-fill-spec = tie.close (tie.spec missing-requires first-requires put-requires same-length returns)
+fill-spec = tie.close (tie.spec (λ c κs. search needs) (λ c κs. search needs) (λ c κs. search needs) (λ c. search needs) returns)

@@ -10,11 +10,8 @@ use Rattle.feed.proofs.open_feed.Tie as tie
 returns : tie.Need-returns
 returns c = opens-not _ _ (c .if1 .taken)
 
-keeping-requires : tie.Need-keeping-requires
-keeping-requires c κs = search needs
-
 returns-2 : tie.Need-returns-2
 returns-2 c = ap (λ (f : Feed). opening.Opened f) (c .keeping .ensures) ∙ opens-so _ _ (c .before .if1 .left)
 
 pub open-feed-spec : {M : Type 1} → statement M
-open-feed-spec = tie.close (tie.spec returns keeping-requires returns-2)
+open-feed-spec = tie.close (tie.spec returns (λ c κs. search needs) returns-2)

@@ -15,13 +15,10 @@ returns-2 c =
     let a = c .before .before .before .args in
     sym (fault-other (a .feed) (a .room) (c .before .before .if1 .left) (c .if2 .taken))
 
-room-fault-requires : tie.Need-room-fault-requires
-room-fault-requires c κs = search needs
-
 returns-3 : tie.Need-returns-3
 returns-3 c =
     let a = c .before .before .before .before .args in
     c .room-fault .ensures ∙ sym (fault-room (a .feed) (a .room) (c .before .before .before .if1 .left) (c .before .if2 .left))
 
 pub push-fault-spec : {M : Type 1} → statement M
-push-fault-spec = tie.close (tie.spec returns returns-2 room-fault-requires returns-3)
+push-fault-spec = tie.close (tie.spec returns returns-2 (λ c κs. search needs) returns-3)

@@ -11,24 +11,6 @@ use Rattle.feed.proofs.Laws.Code.{header-waits, header-wrong, size-limi
 use Rattle.feed.proofs.take_in.Statement.{statement}
 use Rattle.feed.proofs.take_in.Tie as tie
 
-missing-requires : tie.Need-missing-requires
-missing-requires c κs = search needs
-
-fill-requires : tie.Need-fill-requires
-fill-requires c κs = search needs
-
-add-keeping : tie.Need-add-keeping
-add-keeping c = search needs
-
-keeping-requires : tie.Need-keeping-requires
-keeping-requires c κs = search needs
-
-waits-requires : tie.Need-waits-requires
-waits-requires c κs = search needs
-
-same-length : tie.Need-same-length
-same-length c = search needs
-
 returns : tie.Need-returns
 returns c =
     let start = c .before .before .before .before .before .before .before .before .before .before in
@@ -39,21 +21,6 @@ returns c =
       c .waits .ensures ∙ ap (λ (f : Feed). pushed Nothing f (length (a .fragment .now))) (c .before .keeping .ensures) ∙ w .0,
       c .before .before .before .before .before .fill .ensures ∙ w .1,
     )
-
-read-header-requires : tie.Need-read-header-requires
-read-header-requires c κs = search needs
-
-stopped-feed-requires : tie.Need-stopped-feed-requires
-stopped-feed-requires c κs = search needs
-
-refusal-requires : tie.Need-refusal-requires
-refusal-requires c κs = search needs
-
-answers-requires : tie.Need-answers-requires
-answers-requires c κs = search needs
-
-same-length-2 : tie.Need-same-length-2
-same-length-2 c = search needs
 
 returns-2 : tie.Need-returns-2
 returns-2 c =
@@ -77,15 +44,6 @@ add-end c =
     let read = c .before .before .read-header .ensures in
     omega (arith, size-limit (a .layout) (a .kept) (a .fragment .now) (a .buffer .now) (start .pre .1) (start .pre .0) enough _ filled _ read (c .before .if2 .left))
 
-sub-pass : tie.Need-sub-pass
-sub-pass c = search needs
-
-pass-requires : tie.Need-pass-requires
-pass-requires c κs = search needs
-
-same-length-3 : tie.Need-same-length-3
-same-length-3 c = search needs
-
 returns-3 : tie.Need-returns-3
 returns-3 c =
     let start = c .before .before .before .before .before .before .before .before .before .before .before .before .before .before in
@@ -95,12 +53,6 @@ returns-3 c =
     let read = c .before .before .before .before .read-header .ensures in
     let w = header-passes (a .layout) (a .kept) (a .fragment .now) (a .buffer .now) (start .pre .1) (start .pre .0) enough _ filled _ read (c .before .before .before .if2 .left) (c .before .if3 .taken) in
     (c .pass .ensures ∙ w .0, filled ∙ w .1)
-
-take-body-requires : tie.Need-take-body-requires
-take-body-requires c κs = search needs
-
-same-length-4 : tie.Need-same-length-4
-same-length-4 c = search needs
 
 returns-4 : tie.Need-returns-4
 returns-4 c =
@@ -117,24 +69,24 @@ pub take-in-spec : {M : Type 1} → statement M
 take-in-spec =
     tie.close
     (tie.spec
-    missing-requires
-    fill-requires
-    add-keeping
-    keeping-requires
-    waits-requires
-    same-length
+    (λ c κs. search needs)
+    (λ c κs. search needs)
+    (λ c. search needs)
+    (λ c κs. search needs)
+    (λ c κs. search needs)
+    (λ c. search needs)
     returns
-    read-header-requires
-    stopped-feed-requires
-    refusal-requires
-    answers-requires
-    same-length-2
+    (λ c κs. search needs)
+    (λ c κs. search needs)
+    (λ c κs. search needs)
+    (λ c κs. search needs)
+    (λ c. search needs)
     returns-2
     add-end
-    sub-pass
-    pass-requires
-    same-length-3
+    (λ c. search needs)
+    (λ c κs. search needs)
+    (λ c. search needs)
     returns-3
-    take-body-requires
-    same-length-4
+    (λ c κs. search needs)
+    (λ c. search needs)
     returns-4)

@@ -18,18 +18,6 @@ abbrev μ-loop : tie.MeasureT-loop
 loop-holds : tie.Need-loop-holds Inv-loop μ-loop
 loop-holds c = omega arith
 
-is-whole-requires : tie.Need-is-whole-requires Inv-loop μ-loop
-is-whole-requires c κs = search needs
-
-field-requires : tie.Need-field-requires Inv-loop μ-loop
-field-requires c κs = search needs
-
-print-record-requires : tie.Need-print-record-requires Inv-loop μ-loop
-print-record-requires c κs = search needs
-
-after-field-requires : tie.Need-after-field-requires Inv-loop μ-loop
-after-field-requires c κs = search needs
-
 add-number : tie.Need-add-number Inv-loop μ-loop
 add-number c =
     let p = c .before .before .before .before .before in
@@ -50,9 +38,6 @@ loop-again c =
     let less = after-shorter (p .loop .left .now) (sym whole ∙ c .before .before .before .if1 .taken) in
     omega (arith, ap length (c .after-field .ensures), less, p .loop .inv)
 
-returns : tie.Need-returns Inv-loop μ-loop
-returns c = search needs
-
 pub print-records-spec : {M : Type 1} → statement M
 print-records-spec =
     tie.close
@@ -60,11 +45,11 @@ print-records-spec =
     Inv-loop
     μ-loop
     loop-holds
-    is-whole-requires
-    field-requires
-    print-record-requires
-    after-field-requires
+    (λ c κs. search needs)
+    (λ c κs. search needs)
+    (λ c κs. search needs)
+    (λ c κs. search needs)
     add-number
     loop-less
     loop-again
-    returns)
+    (λ c. search needs))

@@ -19,18 +19,6 @@ Inv-loop fragment buffer₀ left₀ last₀ buffer left last = length buffer ≡
 abbrev μ-loop : tie.MeasureT-loop
 μ-loop fragment buffer₀ left₀ last₀ buffer left last = length left
 
-push-requires : tie.Need-push-requires Inv-loop μ-loop
-push-requires c κs = search needs
-
-loop-holds : tie.Need-loop-holds Inv-loop μ-loop
-loop-holds c = search needs
-
-rest-requires : tie.Need-rest-requires Inv-loop μ-loop
-rest-requires c κs = search needs
-
-push-requires-2 : tie.Need-push-requires-2 Inv-loop μ-loop
-push-requires-2 c κs = search needs
-
 loop-less : tie.Need-loop-less Inv-loop μ-loop
 loop-less c =
     shorter _ _ _ (c .before .before .before .before .before .rest .ensures) (c .before .before .before .before .before .before .before .before .if1 .taken)
@@ -46,20 +34,17 @@ loop-again c =
 same-length : tie.Need-same-length Inv-loop μ-loop
 same-length c = search needs
 
-returns : tie.Need-returns Inv-loop μ-loop
-returns c = search needs
-
 pub push-whole-spec : {M : Type 1} → statement M
 push-whole-spec =
     tie.close
     (tie.spec
     Inv-loop
     μ-loop
-    push-requires
-    loop-holds
-    rest-requires
-    push-requires-2
+    (λ c κs. search needs)
+    (λ c. search needs)
+    (λ c κs. search needs)
+    (λ c κs. search needs)
     loop-less
     loop-again
     same-length
-    returns)
+    (λ c. search needs))

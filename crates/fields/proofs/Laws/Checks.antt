@@ -1,7 +1,7 @@
 -- Checks in order: what a check that passed tells, and which fault is given.
 use Prim.Native.Nat.{ℕ, zero, suc}
 use mathlib.Core.Path.{_≡_, refl, ap, _∙_}
-use mathlib.Core.Logic.{_⊎_, inl, inr}
+use mathlib.Core.Logic.{_⊎_, inl, inr, _↔_}
 use mathlib.Core.Bool.{Bool, true, false, cond, _&&_, _||_, false≢true}
 use native.Mathlib.Omega.{arith}
 use Rattle.fields.specs.Checks.{orElse}
@@ -23,6 +23,11 @@ else-fault a b k e = ap (λ (x : ℕ). orElse x b) e
 
 pub else-second : (a b : ℕ) → a ≡ 0 → orElse a b ≡ b
 else-second a b h = ap (λ (x : ℕ). orElse x b) h
+
+-- three checks
+pub else-else : (a b c : ℕ) → orElse (orElse a b) c ≡ orElse a (orElse b c)
+else-else zero b c = refl
+else-else (suc a) b c = refl
 
 -- two checks with the same first
 pub else-same : (a x y : ℕ) → (a ≡ 0 → x ≡ y) → orElse a x ≡ orElse a y
@@ -54,6 +59,10 @@ and-split false b h = absurd (false≢true h)
 
 pub and-join : (a b : Bool) → a ≡ true → b ≡ true → (a && b) ≡ true
 and-join a b h k = ap (λ (x : Bool). x && b) h ∙ k
+
+-- both hold exactly when what they say does
+pub and-both : {A B : Type 0} (a b : Bool) → (a ≡ true) ↔ A → (b ≡ true) ↔ B → ((a && b) ≡ true) ↔ (A × B)
+and-both a b f g = ((λ e. let k = and-split a b e in (f .0 (k .0), g .0 (k .1))), (λ p. and-join a b (f .1 (p .0)) (g .1 (p .1))))
 
 pub or-split : (a b : Bool) → (a || b) ≡ true → (a ≡ true) ⊎ (b ≡ true)
 or-split true b h = inl refl

@@ -1,8 +1,9 @@
--- LayoutTheorems, for any number of fields.
+-- Layouts, for any number of fields.
 use Prim.Native.Nat.{ℕ, suc, _+_, _≤_}
 use mathlib.Core.Path.{_≡_, refl, sym, ap, ap₂, _∙_}
 use mathlib.Core.List.{List, [], _∷_, _++_, map, append-assoc}
 use native.Mathlib.Omega.{arith}
+use native.Mathlib.Nat.{add-zero}
 use lib.ListN.{length, take, drop, length-append}
 use lib.Seq.{take-add, drop-drop, take-at, drop-at}
 use Rattle.fields.specs.Bytes.{Bytes, part}
@@ -40,7 +41,17 @@ cut-join pre (x ∷ xs) (w ∷ ws) rest at e h =
     ∙ cut-join (pre ++ x) xs ws rest (at + w) (length-append pre x ∙ cc) (h .1) in
     cc
 
+-- the fields of what is left from a place on
+pub cut-rest : (at off : ℕ) (ws s : List ℕ) → cut off ws (drop at s) ≡ cut (at + off) ws s
+cut-rest at off [] s = refl
+cut-rest at off (w ∷ ws) s =
+    ap₂ {C = List (List ℕ)} (λ x xs. x ∷ xs) (ap (take w) (drop-drop off at s))
+    (cut-rest at (off + w) ws s ∙ ap (λ (k : ℕ). cut k ws s) (let e : at + (off + w) ≡ at + off + w = omega arith in e))
+
 -- ---- layouts of numbers alone
+
+pub numbers-rest : (at : ℕ) (ws s : List ℕ) → numbersAt 0 ws (drop at s) ≡ numbersAt at ws s
+numbers-rest at ws s = ap (map beVal) (cut-rest at 0 ws s ∙ ap (λ (k : ℕ). cut k ws s) (add-zero at))
 
 -- as many numbers as widths
 pub widths-numbers : (ws vs : List ℕ) → length ws ≡ length vs → Widths (numberFields ws vs) ws

@@ -84,6 +84,14 @@ module _ {A : Type 0} (f : A → List ℕ) (k : List ℕ) where
       (λ r. inr (n, r))
       (first-or-none xs))
 
+-- a list of three numbers
+pub three-back : (xs : List ℕ) → length xs ≡ 3 → getD xs 0 0 ∷ getD xs 1 0 ∷ getD xs 2 0 ∷ [] ≡ xs
+three-back [] h = absurd (omega arith)
+three-back (x ∷ []) h = absurd (omega arith)
+three-back (x ∷ y ∷ []) h = absurd (omega arith)
+three-back (x ∷ y ∷ z ∷ []) h = refl
+three-back (x ∷ y ∷ z ∷ w ∷ xs) h = absurd (omega arith)
+
 -- ---- bytes of elements, one after the other
 
 module _ {A : Type 0} (f : A → List ℕ) where

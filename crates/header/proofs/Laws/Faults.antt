@@ -7,8 +7,7 @@ use lib.Dec.{leb}
 use lib.ListN.{length}
 use borrow.Author.Tests.{leb-true, le-leb, lt-leb, eq-eqb, ne-eqb}
 use Rattle.fields.specs.Bytes.{part}
-use Rattle.fields.specs.Text.{isText, allZero, textOk, fieldOk}
-use Rattle.fields.specs.declared.Checked.{Checked}
+use Rattle.fields.specs.Text.{isText, allZero, textOk}
 use Rattle.fields.specs.Answer.{checked}
 use Rattle.fields.specs.Checks.{orElse}
 use Rattle.fields.proofs.Laws.Checks.{cond-pass, cond-refused, and-split, and-join, zero-else, else-first, else-fault, else-second}
@@ -18,7 +17,8 @@ use Rattle.fields.proofs.Laws.Tests.{by-zero}
 use Rattle.fields.proofs.Laws.Text.{is-text, text-is}
 use Rattle.header.specs.declared.HeaderRead.{HeaderRead}
 use Rattle.header.specs.Header.{WellTexts, limit}
-use Rattle.header.specs.Check.{headerOf, shortFault, textsFault, textsClean, textsChecked, limitFault, headerFault, headerChecked, handedWith, handed, refused, headerRead, namesFault}
+use Rattle.header.specs.HeaderReader.{headerOf, shortFault, textsFault, textsClean, textsChecked, limitFault, headerFault, headerChecked, handed, refused, headerRead}
+use Rattle.header.specs.HeaderWriter.{namesFault}
 
 -- ---- check 1
 

@@ -14,7 +14,7 @@ use Rattle.fields.specs.Checks.{orElse}
 use Rattle.fields.proofs.Laws.Bytes.{front-part}
 use Rattle.fields.proofs.Laws.Tests.{by-test, by-zero}
 use Rattle.header.specs.Header.{limit}
-use Rattle.header.specs.Check.{headerOf, shortFault, textsFault, limitFault, headerFault}
+use Rattle.header.specs.HeaderReader.{headerOf, shortFault, textsFault, limitFault, headerFault}
 use Rattle.header.proofs.Laws.Faults.{fault-texts, fault-limit}
 
 module _ (s t : List ℕ) (e : take 58 s ≡ take 58 t) where

@@ -1,5 +1,5 @@
 -- What is proved of headers, as it is stated.
-use Prim.Native.Nat.{ℕ, _-_, _≤_, _<_}
+use Prim.Native.Nat.{ℕ, _≤_, _<_}
 use mathlib.Core.Path.{_≡_, sym, ap, subst, _∙_}
 use mathlib.Core.Bool.{true, _&&_}
 use mathlib.Core.List.{List, [], _++_, append-nil}
@@ -7,21 +7,24 @@ use native.Mathlib.Omega.{arith}
 use lib.ListN.{length, take, drop, take-append-drop}
 use Rattle.fields.specs.Bytes.{Bytes, part}
 use Rattle.fields.specs.Numbers.{beAt}
-use Rattle.fields.specs.Checks.{orElse}
 use Rattle.fields.specs.Text.{Text, textOf, allZero, textOk}
-use Rattle.fields.specs.Received.{restOf, Rest, zeroed}
-use Rattle.fields.specs.Answer.{writtenNumber, roomFault}
-use Rattle.fields.proofs.Laws.Answer.{written-number, room-enough}
-use Rattle.fields.proofs.Laws.Checks.{and-split, and-join}
+use Rattle.fields.specs.Received.{restOf, Rest}
+use Rattle.fields.specs.Answer.{writtenNumber}
+use Rattle.fields.specs.Writers.{writerFault, WriterTheorems}
+use Rattle.fields.specs.declared.Written.the-variants.{Wrote}
+use Rattle.fields.proofs.Laws.Checks.{else-fault, else-second, and-split, and-join}
+use Rattle.fields.proofs.Laws.Writers.{writer-theorems}
 use Rattle.fields.proofs.Laws.Text.{text-ok}
 use Rattle.fields.proofs.Laws.Received.{rest-rest, field-parts, ok-is, zeros-to, zeros-from, zeroed-fills, zeroed-zeroed, fills-zeros}
 use Rattle.header.specs.declared.HeaderRead.{HeaderRead}
+use Rattle.header.specs.declared.HeaderFields.{HeaderFields}
 use Rattle.header.specs.Header.{Header, WellTexts, HeaderFits, WellHeader, encodeHeader, limit, cleanedHeader, CleanHeader}
-use Rattle.header.specs.Check.{headerOf, textsFault, limitFault, headerFault, handed, refused, headerRead, namesFault, writeFault, headerWritten, headerOut}
+use Rattle.header.specs.HeaderReader.{headerOf, textsFault, headerFault, handed, refused, headerRead, typeIn, nameIn}
+use Rattle.header.specs.HeaderWriter.{namesFault, given, givenFault, headerWritten, headerOut}
 use Rattle.header.specs.HeaderTheorems.{BeginsWith, TextsHeld, givenBack, HeaderTheorems}
-use Rattle.header.proofs.Laws.Faults.{texts-pass, texts-passed, names-pass, names-passed, names-refused, limit-pass, limit-refused, fault-short, fault-texts, fault-limit, header-read-passed, header-read-refused}
-use Rattle.header.proofs.Laws.Layout.{length-header, fits-texts, header-read, header-number, header-back, header-fits}
-use Rattle.header.proofs.Laws.Writer.{write-names, write-named, write-room, answer-wrote, out-header, out-kept}
+use Rattle.header.proofs.Laws.Faults.{texts-pass, texts-passed, names-pass, names-broken, limit-pass, limit-refused, fault-short, fault-texts, fault-limit, header-read-passed, header-read-refused}
+use Rattle.header.proofs.Laws.Layout.{length-header, fits-texts, header-read, header-number, header-back, header-fits, type-part, name-part}
+use Rattle.header.proofs.Laws.Writer.{given-passes, out-header}
 
 -- ---- the reader
 
@@ -68,22 +71,20 @@ above-limit s h t k = fault-limit s h (held-texts s t) ∙ limit-refused (beAt 8
 
 -- ---- the writer
 
-written-fault : (h : Header) (room : ℕ) → writtenNumber (headerWritten h room) ≡ writeFault h room
-unfolding headerWritten
-written-fault h room = written-number (writeFault h room) 58
+abbrev written : (h : Header) → WriterTheorems (givenFault h) (encodeHeader h)
+written h = writer-theorems (givenFault h) (encodeHeader h)
 
 written-names : (h : Header) (room : ℕ) → (WellTexts (h .typeText) (h .deviceName) → ⊥) → writtenNumber (headerWritten h room) ≡ 2
+unfolding givenFault
 written-names h room k =
-    let none : namesFault (h .typeText) (h .deviceName) ≡ 0 → ⊥ = λ e. k (names-passed (h .typeText) (h .deviceName) e) in
-    written-fault h room ∙ write-names h room none ∙ names-refused (h .typeText) (h .deviceName) none
+    written h .number room ∙ else-fault (givenFault h) _ 1 (else-fault (namesFault (h .typeText) (h .deviceName)) _ 1 (names-broken (h .typeText) (h .deviceName) k))
 
-written-as-read : (h : Header) (room : ℕ) → HeaderFits h → writtenNumber (headerWritten h room) ≡ orElse (headerFault (encodeHeader h)) (roomFault 58 room)
-written-as-read h room f =
-    let number : headerFault (encodeHeader h) ≡ limitFault (h .bodySize) =
-    ap headerFault (sym (append-nil (encodeHeader h))) ∙ header-number h [] f in
-    written-fault h room
-    ∙ write-named h room (names-pass (h .typeText) (h .deviceName) (fits-texts h f))
-    ∙ ap (λ (n : ℕ). orElse n (roomFault 58 room)) (sym number)
+-- of what fits its fields, its number is the reader's
+as-reader : (h : Header) → HeaderFits h → givenFault h ≡ headerFault (encodeHeader h)
+unfolding givenFault
+as-reader h f =
+    else-second (namesFault (h .typeText) (h .deviceName)) _ (names-pass (h .typeText) (h .deviceName) (fits-texts h f))
+    ∙ sym (ap headerFault (sym (append-nil (encodeHeader h))) ∙ header-number h [] f)
 
 -- ---- rests
 
@@ -124,32 +125,36 @@ meant h w = (
   (zeroed-zeroed (h .typeRest), zeroed-zeroed (h .nameRest)),
 )
 
+-- the texts that are handed out
+texts : (s : List ℕ) → headerFault s ≡ 0 → (typeIn s (headerRead s) ≡ headerOf s .typeText) × (nameIn s (headerRead s) ≡ headerOf s .deviceName)
+texts s h = let e = header-read-passed s h in (ap (typeIn s) e ∙ type-part s, ap (nameIn s) e ∙ name-part s)
+
 -- what is handed out and given back is the header that was read, with its rests zeroed
 given-back : (s : List ℕ) → Bytes s → headerFault s ≡ 0 → givenBack s ≡ cleanedHeader (headerOf s)
 given-back s b h =
     let e : headerRead s ≡ handed (headerOf s) = header-read-passed s h in
     let f = header-fits s b h .fits in
     let g = headerOf s in
-    let t = fills-zeros 12 (g .typeText) (g .typeRest) (f .type-fills) in
-    let n = fills-zeros 20 (g .deviceName) (g .nameRest) (f .name-fills) in
-    λ i.
+    let fields : HeaderRead → HeaderFields = λ r.
+    record { version = r .version; «time_stamp» = r .«time_stamp»; «body_size» = r .«body_size»; crc = r .crc } in
+    (λ i. given (fields (e i)) (texts s h .0 i) (texts s h .1 i))
+    ∙ (λ i.
     record {
-      version = e i .version;
+      version = g .version;
       typeText = g .typeText;
-      typeRest = t i;
+      typeRest = fills-zeros 12 (g .typeText) (g .typeRest) (f .type-fills) i;
       deviceName = g .deviceName;
-      nameRest = n i;
-      timeStamp = e i .«time_stamp»;
-      bodySize = e i .«body_size»;
-      crc = e i .crc;
-    }
+      nameRest = fills-zeros 20 (g .deviceName) (g .nameRest) (f .name-fills) i;
+      timeStamp = g .timeStamp;
+      bodySize = g .bodySize;
+      crc = g .crc;
+    })
 
--- what was read is written where there is room
-write-read : (s : List ℕ) (room : ℕ) → Bytes s → headerFault s ≡ 0 → 58 ≤ room → writeFault (cleanedHeader (headerOf s)) room ≡ 0
-write-read s room b h k =
+-- what was read passes the writer's checks
+write-read : (s : List ℕ) → Bytes s → headerFault s ≡ 0 → givenFault (cleanedHeader (headerOf s)) ≡ 0
+write-read s b h =
     let w = header-fits s b h in
-    write-room (cleanedHeader (headerOf s)) room (names-pass (headerOf s .typeText) (headerOf s .deviceName) (fits-texts (headerOf s) (w .fits))) (limit-pass (headerOf s .bodySize) (w .size-limit))
-    ∙ room-enough 58 room k
+    given-passes (cleanedHeader (headerOf s)) (names-pass (headerOf s .typeText) (headerOf s .deviceName) (fits-texts (headerOf s) (w .fits))) (limit-pass (headerOf s .bodySize) (w .size-limit))
 
 clean-bytes : (s : List ℕ) → Bytes s → headerFault s ≡ 0 → headerRead s .clean ≡ true → encodeHeader (cleanedHeader (headerOf s)) ≡ take 58 s
 clean-bytes s b h c =
@@ -173,6 +178,10 @@ header-theorems =
       width = length-header;
       accepted = accepted;
       begun = λ s h w. header-read-passed s (begun-fault s h w) ∙ ap handed (begun-same s h w);
+      texts = λ s h w.
+          let k = texts s (begun-fault s h w) in
+          let e = begun-same s h w in
+          (k .0 ∙ ap (λ (g : Header). g .typeText) e, k .1 ∙ ap (λ (g : Header). g .deviceName) e);
       unique = λ s g h v w. sym (begun-same s g v) ∙ begun-same s h w;
       mark = λ s h w.
           let e = ap (λ (r : HeaderRead). r .clean) (header-read-passed s (begun-fault s h w) ∙ ap handed (begun-same s h w)) in
@@ -183,12 +192,16 @@ header-theorems =
       no-text = λ s h k. refused-with s 2 (fault-texts s h (λ e. k (texts-held s e))) (λ e. omega arith);
       too-long = λ s h t k. refused-with s 3 (above-limit s h t k) (λ e. omega arith);
       nothing-handed = header-read-refused;
+      no-texts = λ s h. let e = header-read-refused s h in (ap (typeIn s) e, ap (nameIn s) e);
       names = written-names;
-      number = written-as-read;
+      number = λ h room f. written h .number room ∙ ap (λ (n : ℕ). writerFault n (encodeHeader h) room) (as-reader h f);
       answered-back = λ s room b h k.
-          ap (λ (g : Header). headerWritten g room) (given-back s b h) ∙ answer-wrote (cleanedHeader (headerOf s)) room (write-read s room b h k);
+          let g = cleanedHeader (headerOf s) in
+          ap (λ (x : Header). headerWritten x room) (given-back s b h)
+          ∙ written g .wrote room (write-read s b h) (omega (arith, length-header g, k)) ∙ ap Wrote (length-header g);
       written-back = λ s out b h k.
-          ap (λ (g : Header). headerOut g out) (given-back s b h) ∙ out-header (cleanedHeader (headerOf s)) out (write-read s (length out) b h k);
+          ap (λ (x : Header). headerOut x out) (given-back s b h) ∙ out-header (cleanedHeader (headerOf s)) out (write-read s b h) k;
       same-bytes = λ s b h. (bytes-clean s b h, clean-bytes s b h);
-      untouched = λ h out k. out-kept h out (λ e. k (written-fault h (length out) ∙ e));
+      promised = λ h out left answer p. (p .written, p .buffer);
+      untouched = λ h out. written h .untouched out;
     }

@@ -8,7 +8,7 @@ use lib.Seq.{sets, take-take}
 use Rattle.fields.specs.Bytes.{Bytes, part}
 use Rattle.fields.specs.Numbers.{beVal, beBytes, beAt}
 use Rattle.fields.specs.Text.{textOf, textOk}
-use Rattle.fields.specs.Received.{restOf, fieldBytes, Fills}
+use Rattle.fields.specs.Received.{restOf, fieldBytes}
 use Rattle.fields.specs.Layout.{join, cut, Widths, stores}
 use Rattle.fields.proofs.Laws.Numbers.{length-beBytes, beVal-beBytes, beAt-lt, beBytes-beAt}
 use Rattle.fields.proofs.Laws.Text.{text-take, length-textOf-part}
@@ -16,7 +16,7 @@ use Rattle.fields.proofs.Laws.Received.{length-fieldBytes, textOk-field, textOf
 use Rattle.fields.proofs.Laws.Layout.{length-join, join-cut, cut-join}
 use Rattle.fields.proofs.Laws.Stores.{stores-join}
 use Rattle.header.specs.Header.{Header, headerWidths, headerFields, encodeHeader, WellTexts, HeaderFits, WellHeader}
-use Rattle.header.specs.Check.{headerOf, limitFault, headerFault}
+use Rattle.header.specs.HeaderReader.{headerOf, limitFault, headerFault}
 use Rattle.header.proofs.Laws.Faults.{fault-passed, texts-pass, fault-limit}
 
 -- ---- a header's fields

@@ -7,7 +7,7 @@ use borrow.Author.Tests.{not-true, not-false}
 use Rattle.fields.specs.Bytes.{part}
 use Rattle.fields.specs.Text.{textOk, fieldOk}
 use Rattle.fields.specs.declared.text.TextField.{TextField}
-use Rattle.header.specs.Check.{textsClean}
+use Rattle.header.specs.HeaderReader.{textsClean}
 use Rattle.header.proofs.Laws.Faults.{texts-pass, texts-passed, texts-refused, texts-as, texts-clean}
 use Rattle.header.proofs.check_texts.Statement.{statement}
 use Rattle.header.proofs.check_texts.Tie as tie

@@ -16,18 +16,12 @@ returns c = sym (names-broken _ _ (λ w. omega (arith, w .type-fits)))
 returns-2 : tie.Need-returns-2
 returns-2 c = sym (names-broken _ _ (λ w. omega (arith, w .name-fits)))
 
-is-text-requires : tie.Need-is-text-requires
-is-text-requires c κs = search needs
-
 returns-3 : tie.Need-returns-3
 returns-3 c =
     let t = c .before .before .before .before .before .before .args .type-text .now in
     let n = c .before .before .before .before .before .before .args .device-name .now in
     let no : isText t ≡ false = sym (c .before .is-text .ensures) ∙ not-true _ (c .if3 .taken) in
     sym (names-broken t n (λ w. false≢true (sym no ∙ text-is t (w .type-text))))
-
-is-text-requires-2 : tie.Need-is-text-requires-2
-is-text-requires-2 c κs = search needs
 
 returns-4 : tie.Need-returns-4
 returns-4 c =
@@ -50,4 +44,4 @@ returns-5 c =
 pub names-fault-spec : {M : Type 1} → statement M
 names-fault-spec =
     tie.close
-    (tie.spec returns returns-2 is-text-requires returns-3 is-text-requires-2 returns-4 returns-5)
+    (tie.spec returns returns-2 (λ c κs. search needs) returns-3 (λ c κs. search needs) returns-4 returns-5)

@@ -5,7 +5,7 @@ use borrow.Author.Needs.{needs}
 use Rattle.fields.specs.declared.Checked.{Checked}
 use Rattle.header.specs.declared.HeaderRead.{HeaderRead}
 use Rattle.header.proofs.Laws.Faults.{header-checked-number, rests-mark, header-read-passed, header-read-refused}
-use Rattle.header.specs.Check.{headerOf, handedWith, refused}
+use Rattle.header.specs.HeaderReader.{headerOf, handedWith, refused}
 use Rattle.header.proofs.read_header.Statement.{statement}
 use Rattle.header.proofs.read_header.Tie as tie
 

@@ -8,7 +8,7 @@ use Rattle.fields.proofs.Laws.Tests.{by-zero}
 use Rattle.message.specs.Message.{Message}
 use Rattle.history.specs.Calls.{Call, Note, noteOf}
 use Rattle.history.specs.Reading.{Reader}
-use Rattle.history.specs.Summary.{Summary, noted, numberOn, summaryOf}
+use Rattle.history.specs.Summary.{Summary, noted, faultOn, summaryOf}
 use Rattle.history.specs.History.{CountsFor, Counted}
 use Rattle.history.proofs.Laws.Rows.{row}
 use Rattle.history.proofs.Laws.Longer.{by-calls, longer, book-next, book-kept, counted-cases}
@@ -26,7 +26,7 @@ module _ (R : Reader) where
 
   known-more : (cs : List Call) (c : Call) → Known cs → Known (longer R cs c)
   known-more cs c K i k t m d =
-      by-zero (numberOn R (summaryOf R cs) c)
+      by-zero (faultOn R (summaryOf R cs) c)
       (λ z.
       subst (λ (x : Summary). t ≤ x .link .clock) (sym (book-next R cs c z))
       (⊎-elim

@@ -15,7 +15,7 @@ use Rattle.message.specs.Message.{Message}
 use Rattle.history.specs.Calls.{Call, look, Entry, Note, adding, linking, receiving, nothing, noteOf}
 use Rattle.history.specs.Reading.{oneMessage, Reader}
 use Rattle.history.specs.Places.{firstFree}
-use Rattle.history.specs.Summary.{Summary, noted, readOn, numberOn, next, summaryOf, freshSummary}
+use Rattle.history.specs.Summary.{Summary, noted, readOn, faultOn, next, summaryOf, freshSummary}
 use Rattle.history.specs.History.{callAt, summaryBefore, CountsFor, Counted, NoneAfter}
 use Rattle.history.specs.Words.{AddedAt}
 use Rattle.fields.proofs.Laws.Tests.{by-test}
@@ -65,15 +65,15 @@ module _ (R : Reader) where
     longer = cs ++ (c ∷ [])
 
     -- the book after the call
-    pub book-next : numberOn R (summaryOf R cs) c ≡ 0 → summaryOf R longer ≡ noted (summaryOf R cs) (noteOf c)
+    pub book-next : faultOn R (summaryOf R cs) c ≡ 0 → summaryOf R longer ≡ noted (summaryOf R cs) (noteOf c)
     book-next z =
         summary-more cs c
-        ∙ ap (λ (t : Bool). cond t (noted (summaryOf R cs) (noteOf c)) (summaryOf R cs)) (eq-eqb (numberOn R (summaryOf R cs) c) 0 z)
+        ∙ ap (λ (t : Bool). cond t (noted (summaryOf R cs) (noteOf c)) (summaryOf R cs)) (eq-eqb (faultOn R (summaryOf R cs) c) 0 z)
 
-    pub book-kept : (numberOn R (summaryOf R cs) c ≡ 0 → ⊥) → summaryOf R longer ≡ summaryOf R cs
+    pub book-kept : (faultOn R (summaryOf R cs) c ≡ 0 → ⊥) → summaryOf R longer ≡ summaryOf R cs
     book-kept z =
         summary-more cs c
-        ∙ ap (λ (t : Bool). cond t (noted (summaryOf R cs) (noteOf c)) (summaryOf R cs)) (ne-eqb (numberOn R (summaryOf R cs) c) 0 z)
+        ∙ ap (λ (t : Bool). cond t (noted (summaryOf R cs) (noteOf c)) (summaryOf R cs)) (ne-eqb (faultOn R (summaryOf R cs) c) 0 z)
 
     pub longer-length : length longer ≡ length cs + 1
     longer-length = length-append cs (c ∷ [])
@@ -170,14 +170,14 @@ module _ (R : Reader) where
     -- ---- the adding of a tile
 
     abbrev Adds : ℕ → Entry → Summary → Call → Type 0
-    Adds i e b x = (noteOf x ≡ adding e) × (numberOn R b x ≡ 0) × (firstFree (b .tiles) ≡ i)
+    Adds i e b x = (noteOf x ≡ adding e) × (faultOn R b x ≡ 0) × (firstFree (b .tiles) ≡ i)
 
     pub added-more : (i j : ℕ) (e : Entry) → AddedAt R cs i j e → AddedAt R longer i j e
     added-more i j e d =
         let w = old-place (Adds i e) j (d .within) .1 (d .is, d .accepted, d .number) in
         record { within = omega (arith, longer-length, d .within); is = w .0; accepted = w .1; number = w .2 }
 
-    pub added-now : (i : ℕ) (e : Entry) → noteOf c ≡ adding e → numberOn R (summaryOf R cs) c ≡ 0 → firstFree (summaryOf R cs .tiles) ≡ i
+    pub added-now : (i : ℕ) (e : Entry) → noteOf c ≡ adding e → faultOn R (summaryOf R cs) c ≡ 0 → firstFree (summaryOf R cs .tiles) ≡ i
         → AddedAt R longer i (length cs) e
     added-now i e n z f =
         let w = new-place (Adds i e) (length cs) refl .1 (n, z, f) in

@@ -51,7 +51,7 @@ read-bytes : (l : Layout) (s : List ℕ) → Bytes s → (r : Reading) × Reads 
 read-bytes l s b =
     by-zero (readOf l s .number)
     (λ e. let h = demand-2 l .accepted s b e in read-front l s (h .0) (h .1))
-    (λ n. (noMessage (check.numberOf l s), none (λ m h. n (demand-2 l .begun s m h))))
+    (λ n. (noMessage (check.streamFault l s), none (λ m h. n (demand-2 l .begun s m h))))
 
 -- are they bytes?
 allBytes : List ℕ → Bool

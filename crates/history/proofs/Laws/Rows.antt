@@ -13,7 +13,7 @@ use Rattle.message.specs.declared.Layout.{Layout}
 use Rattle.message.specs.Message.{Message}
 use Rattle.history.specs.Calls.{Call, add, linkUp, linkDown, message, look, Entry, noteOf, Colour, green, grey, Answer, shown}
 use Rattle.history.specs.Reading.{Reader}
-use Rattle.history.specs.Summary.{Summary, noted, clockFault, numberOn}
+use Rattle.history.specs.Summary.{Summary, noted, clockFault, faultOn}
 use Rattle.history.specs.History.{callAt, summaryBefore, valueFor, IsColour, NoneCounted, OfLast, Shown, Accepted}
 use Rattle.history.proofs.Laws.Longer.{same-received}
 
@@ -68,7 +68,7 @@ both x y = x ∙ sym y
 
 module _ (R : Reader) where
   pub record Row (c : Call) : Type 0 where
-    pub rises : (b : Summary) → numberOn R b c ≡ 0 → b .link .clock ≤ noted b (noteOf c) .link .clock
+    pub rises : (b : Summary) → faultOn R b c ≡ 0 → b .link .clock ≤ noted b (noteOf c) .link .clock
     pub one-answer : (cs : List Call) (a b : Answer) → Accepted R cs c a → Accepted R cs c b → a ≡ b
 
   pub row : (c : Call) → Row c

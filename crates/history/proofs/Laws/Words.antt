@@ -15,7 +15,7 @@ use Rattle.message.specs.declared.Layout.{Layout}
 use Rattle.history.specs.Calls.{Call, add, linkUp, linkDown, message, look, Entry, Note, adding, linking, receiving, nothing, noteOf, Answer}
 use Rattle.history.specs.Places.{passes, firstFree}
 use Rattle.history.specs.Reading.{Reader}
-use Rattle.history.specs.Summary.{Summary, tileAt, carries, noted, numberOn, summaryOf}
+use Rattle.history.specs.Summary.{Summary, tileAt, carries, noted, faultOn, summaryOf}
 use Rattle.history.specs.History.{callAt, summaryBefore, NoneCounted, LinkCall, Answers}
 use Rattle.history.specs.Words.{AfterAdding, NamedLast, Words}
 use Rattle.history.proofs.Laws.Places.{filled-at, free-at, NoGaps, filled-no-gaps, free-count}
@@ -26,7 +26,7 @@ use Rattle.history.proofs.Laws.Longer.{by-calls, isReceiving, isLinking
 
 answers-only : (R : Reader) (cs : List Call) (c : Call) (a b : Answer) → Answers R cs c a → Answers R cs c b → a ≡ b
 answers-only R cs c a b x y =
-    by-zero (numberOn R (summaryOf R cs) c)
+    by-zero (faultOn R (summaryOf R cs) c)
     (λ e. row R c .one-answer cs a b (x .acceptance e) (y .acceptance e))
     (λ n. x .refusal n ∙ sym (y .refusal n))
 
@@ -50,7 +50,7 @@ module _ (R : Reader) (i : ℕ) where
           after = λ k t m d. ⊎-elim (s .after k t m) (λ w. omega (arith, w .0, s .added .within)) (counted-cases R cs c i k t m d);
         }
 
-    since-added : (e : Entry) → noteOf c ≡ adding e → numberOn R (summaryOf R cs) c ≡ 0 → firstFree (summaryOf R cs .tiles) ≡ i
+    since-added : (e : Entry) → noteOf c ≡ adding e → faultOn R (summaryOf R cs) c ≡ 0 → firstFree (summaryOf R cs .tiles) ≡ i
         → Since cs none → AfterAdding R (longer R cs c) i e
     since-added e n z f s =
         record {
@@ -64,7 +64,7 @@ module _ (R : Reader) (i : ℕ) where
     b = summaryOf R cs
 
     -- by what the book notes
-    since-noted : (n : Note) → noteOf c ≡ n → numberOn R b c ≡ 0 → Since cs (tileAt b i) → Since (longer R cs c) (tileAt (noted b n) i)
+    since-noted : (n : Note) → noteOf c ≡ n → faultOn R b c ≡ 0 → Since cs (tileAt b i) → Since (longer R cs c) (tileAt (noted b n) i)
     since-noted (adding e) q z s =
         subst (Since (longer R cs c)) (sym (filled-at e (b .tiles) i))
         (cond-cases (Since (longer R cs c)) (eqb i (firstFree (b .tiles))) (some e) (tileAt b i)
@@ -78,7 +78,7 @@ module _ (R : Reader) (i : ℕ) where
 
     since-more : Since cs (tileAt b i) → Since (longer R cs c) (tileAt (summaryOf R (longer R cs c)) i)
     since-more s =
-        by-zero (numberOn R b c)
+        by-zero (faultOn R b c)
         (λ z. subst (λ (x : Summary). Since (longer R cs c) (tileAt x i)) (sym (book-next R cs c z)) (since-noted (noteOf c) refl z s))
         (λ z. subst (λ (x : Summary). Since (longer R cs c) (tileAt x i)) (sym (book-kept R cs c z)) (since-kept (tileAt b i) refl s))
 
@@ -103,7 +103,7 @@ module _ (R : Reader) where
 
   -- an accepted link up that names l
   abbrev Names : Layout → ℕ → Summary → Call → Type 0
-  Names l t b x = (x ≡ linkUp l t) × (numberOn R b x ≡ 0)
+  Names l t b x = (x ≡ linkUp l t) × (faultOn R b x ≡ 0)
 
   module _ (cs : List Call) (c : Call) where
     -- a call that is no accepted link call
@@ -138,7 +138,7 @@ module _ (R : Reader) where
     abbrev o : Option Layout
     o = summaryOf R cs .link .up
 
-    named-noted : (x : Call) → c ≡ x → numberOn R (summaryOf R cs) c ≡ 0 → Named cs o → Named (longer R cs c) (noted (summaryOf R cs) (noteOf x) .link .up)
+    named-noted : (x : Call) → c ≡ x → faultOn R (summaryOf R cs) c ≡ 0 → Named cs o → Named (longer R cs c) (noted (summaryOf R cs) (noteOf x) .link .up)
     named-noted (add t n h) e z s = named-kept (no-link (ap (λ (x : Call). isLinking (noteOf x)) e)) o s
     named-noted (linkUp l t) e z s = named-now l t (e, z)
     named-noted (linkDown t) e z s = tt
@@ -147,7 +147,7 @@ module _ (R : Reader) where
 
     named-more : Named cs o → Named (longer R cs c) (summaryOf R (longer R cs c) .link .up)
     named-more s =
-        by-zero (numberOn R (summaryOf R cs) c)
+        by-zero (faultOn R (summaryOf R cs) c)
         (λ z. subst (λ (x : Summary). Named (longer R cs c) (x .link .up)) (sym (book-next R cs c z)) (named-noted c refl z s))
         (λ z. subst (λ (x : Summary). Named (longer R cs c) (x .link .up)) (sym (book-kept R cs c z)) (named-kept (λ k. z (k .accepted)) o s))
 
@@ -171,7 +171,7 @@ module _ (R : Reader) where
           ap (λ (b : Summary). b .link .up) (book-next R cs c (w .1)) ∙ ap (λ (x : Call). noted (summaryOf R cs) (noteOf x) .link .up) (w .0)
 
       -- a note of no link call
-      still-noted : (b : Summary) (c : Call) → (LinkCall R b c → ⊥) → numberOn R b c ≡ 0 → (n : Note) → noteOf c ≡ n → noted b n .link .up ≡ b .link .up
+      still-noted : (b : Summary) (c : Call) → (LinkCall R b c → ⊥) → faultOn R b c ≡ 0 → (n : Note) → noteOf c ≡ n → noted b n .link .up ≡ b .link .up
       still-noted b c h z (adding e) q = refl
       still-noted b c h z (linking k) q = absurd (h (record { link = k; is = q; accepted = z }))
       still-noted b c h z (receiving t s) q = refl
@@ -190,7 +190,7 @@ module _ (R : Reader) where
             accepted = w .1;
             last = none-less R cs c (LinkCall R) (n .place) (n .last);
           } in
-          by-zero (numberOn R (summaryOf R cs) c)
+          by-zero (faultOn R (summaryOf R cs) c)
           (λ z.
           ap (λ (b : Summary). b .link .up) (book-next R cs c z)
           ∙ still-noted (summaryOf R cs) c (λ h. one-now R cs c (LinkCall R) (n .place) k h (n .last)) z (noteOf c) refl
@@ -214,7 +214,7 @@ module _ (R : Reader) where
   no-gaps =
       by-calls (λ cs. NoGaps (summaryOf R cs .tiles)) no-gaps-start
       (λ cs c h.
-      by-zero (numberOn R (summaryOf R cs) c)
+      by-zero (faultOn R (summaryOf R cs) c)
       (λ z. subst (λ (b : Summary). NoGaps (b .tiles)) (sym (book-next R cs c z)) (noted-no-gaps (summaryOf R cs) (noteOf c) h))
       (λ z. subst (λ (b : Summary). NoGaps (b .tiles)) (sym (book-kept R cs c z)) h))
 

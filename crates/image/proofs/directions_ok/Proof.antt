@@ -2,29 +2,20 @@
 use mathlib.Core.Path.{sym, _∙_}
 use borrow.Author.Tests.{not-true, not-false}
 use borrow.Author.Needs.{needs}
-use Rattle.image.specs.Image.{directionsOk}
+use Rattle.image.specs.ImageReader.{directionsOk}
 use Rattle.image.proofs.Rule.{and-no, and-yes}
 use Rattle.image.proofs.directions_ok.Statement.{statement}
 use Rattle.image.proofs.directions_ok.Tie as tie
 
-direction-ok-requires : tie.Need-direction-ok-requires
-direction-ok-requires c κs = search needs
-
 returns : tie.Need-returns
 unfolding directionsOk
 returns c = sym (and-no _ (sym (c .before .direction-ok .ensures) ∙ not-true (c .before .direction-ok .result) (c .if1 .taken)))
-
-direction-ok-requires-2 : tie.Need-direction-ok-requires-2
-direction-ok-requires-2 c κs = search needs
 
 returns-2 : tie.Need-returns-2
 unfolding directionsOk
 returns-2 c = sym
     (and-yes _ (sym (c .before .before .before .direction-ok .ensures) ∙ not-false (c .before .before .before .direction-ok .result) (c .before .before .if1 .left))
     ∙ and-no _ (sym (c .before .direction-ok2 .ensures) ∙ not-true (c .before .direction-ok2 .result) (c .if2 .taken)))
-
-direction-ok-requires-3 : tie.Need-direction-ok-requires-3
-direction-ok-requires-3 c κs = search needs
 
 returns-3 : tie.Need-returns-3
 unfolding directionsOk
@@ -37,9 +28,9 @@ pub directions-ok-spec : {M : Type 1} → statement M
 directions-ok-spec =
     tie.close
     (tie.spec
-    direction-ok-requires
+    (λ c κs. search needs)
     returns
-    direction-ok-requires-2
+    (λ c κs. search needs)
     returns-2
-    direction-ok-requires-3
+    (λ c κs. search needs)
     returns-3)

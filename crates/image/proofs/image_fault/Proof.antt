@@ -9,19 +9,10 @@ use Rattle.image.proofs.image_fault.Tie as tie
 returns : tie.Need-returns
 returns c = sym (fault-short _ (c .if1 .taken))
 
-header-of-requires : tie.Need-header-of-requires
-header-of-requires c κs = search needs
-
-sub-rule-fault : tie.Need-sub-rule-fault
-sub-rule-fault c = search needs
-
-rule-fault-requires : tie.Need-rule-fault-requires
-rule-fault-requires c κs = search needs
-
 returns-2 : tie.Need-returns-2
 returns-2 c =
     c .rule-fault .ensures .0 ∙ rule-same _ (c .before .header-of .ensures) ∙ sym (fault-long _ (c .before .before .if1 .left))
 
 pub image-fault-spec : {M : Type 1} → statement M
 image-fault-spec =
-    tie.close (tie.spec returns header-of-requires sub-rule-fault rule-fault-requires returns-2)
+    tie.close (tie.spec returns (λ c κs. search needs) (λ c. search needs) (λ c κs. search needs) returns-2)

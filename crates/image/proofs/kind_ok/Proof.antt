@@ -3,7 +3,7 @@ use mathlib.Core.Path.{sym, ap, _∙_}
 use lib.Dec.{leb}
 use borrow.Author.Tests.{le-leb, lt-leb, not-true, not-false}
 use borrow.Author.Needs.{needs}
-use Rattle.image.specs.Image.{kindOk}
+use Rattle.image.specs.ImageReader.{kindOk}
 use Rattle.image.proofs.Rule.{and-no, and-yes}
 use Rattle.image.proofs.kind_ok.Statement.{statement}
 use Rattle.image.proofs.kind_ok.Tie as tie
@@ -12,15 +12,9 @@ returns : tie.Need-returns
 unfolding kindOk
 returns c = sym (and-no _ (lt-leb _ _ (c .if1 .taken)))
 
-scalar-size-requires : tie.Need-scalar-size-requires
-scalar-size-requires c κs = search needs
-
 returns-2 : tie.Need-returns-2
 unfolding kindOk
 returns-2 c = sym (and-yes _ (le-leb _ _ (c .before .before .if1 .left)) ∙ and-no _ (ap (leb _) (sym (c .before .scalar-size .ensures .0)) ∙ lt-leb _ _ (c .if2 .taken)))
-
-one-or-two-requires : tie.Need-one-or-two-requires
-one-or-two-requires c κs = search needs
 
 returns-3 : tie.Need-returns-3
 unfolding kindOk
@@ -28,9 +22,6 @@ returns-3 c = sym
     (and-yes _ (le-leb _ _ (c .before .before .before .before .if1 .left))
     ∙ and-yes _ (ap (leb _) (sym (c .before .before .before .scalar-size .ensures .0)) ∙ le-leb _ _ (c .before .before .if2 .left))
     ∙ and-no _ (sym (c .before .one-or-two .ensures) ∙ not-true (c .before .one-or-two .result) (c .if3 .taken)))
-
-one-or-two-requires-2 : tie.Need-one-or-two-requires-2
-one-or-two-requires-2 c κs = search needs
 
 returns-4 : tie.Need-returns-4
 unfolding kindOk
@@ -45,9 +36,9 @@ kind-ok-spec =
     tie.close
     (tie.spec
     returns
-    scalar-size-requires
+    (λ c κs. search needs)
     returns-2
-    one-or-two-requires
+    (λ c κs. search needs)
     returns-3
-    one-or-two-requires-2
+    (λ c κs. search needs)
     returns-4)

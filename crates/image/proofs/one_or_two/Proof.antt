@@ -3,7 +3,7 @@ use mathlib.Core.Bool.{Bool, _||_}
 use mathlib.Core.Path.{ap, sym}
 use lib.Dec.{eqb}
 use borrow.Author.Tests.{ne-eqb}
-use Rattle.image.specs.Image.{oneOrTwo}
+use Rattle.image.specs.ImageReader.{oneOrTwo}
 use Rattle.image.proofs.one_or_two.Statement.{statement}
 use Rattle.image.proofs.one_or_two.Tie as tie
 

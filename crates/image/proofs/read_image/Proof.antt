@@ -8,17 +8,8 @@ use Rattle.image.proofs.Laws.{read-kept, read-refused}
 use Rattle.image.proofs.read_image.Statement.{statement}
 use Rattle.image.proofs.read_image.Tie as tie
 
-image-fault-requires : tie.Need-image-fault-requires
-image-fault-requires c κs = search needs
-
-no-header-requires : tie.Need-no-header-requires
-no-header-requires c κs = search needs
-
 returns : tie.Need-returns
 returns c = ap₂ {C = ImageRead} (λ (n : ℕ) (h : ImageHeader). record { number = n; header = h }) (c .before .before .image-fault .ensures) (c .no-header .ensures) ∙ sym (read-refused _ (λ e. c .before .if1 .taken (c .before .before .image-fault .ensures ∙ e)))
-
-header-of-requires : tie.Need-header-of-requires
-header-of-requires c κs = search needs
 
 returns-2 : tie.Need-returns-2
 returns-2 c = ap₂ {C = ImageRead} (λ (n : ℕ) (h : ImageHeader). record { number = n; header = h }) (c .before .before .image-fault .ensures) (c .header-of .ensures) ∙ sym (read-kept _ (sym (c .before .before .image-fault .ensures) ∙ c .before .if1 .left))
@@ -26,4 +17,4 @@ returns-2 c = ap₂ {C = ImageRead} (λ (n : ℕ) (h : ImageHeader). record { nu
 pub read-image-spec : {M : Type 1} → statement M
 read-image-spec =
     tie.close
-    (tie.spec image-fault-requires no-header-requires returns header-of-requires returns-2)
+    (tie.spec (λ c κs. search needs) (λ c κs. search needs) returns (λ c κs. search needs) returns-2)

@@ -5,7 +5,7 @@ use native.Mathlib.Omega.{arith}
 use lib.Dec.{eqb}
 use borrow.Author.Tests.{eq-eqb, ne-eqb, not-true, not-false}
 use borrow.Author.Needs.{needs}
-use Rattle.image.specs.Image.{headerOk}
+use Rattle.image.specs.ImageReader.{headerOk}
 use Rattle.image.proofs.Rule.{and-no, and-yes, rule-broken, rule-kept}
 use Rattle.image.proofs.rule_fault.Statement.{statement}
 use Rattle.image.proofs.rule_fault.Tie as tie
@@ -14,15 +14,9 @@ use Rattle.image.proofs.rule_fault.Tie as tie
 refused : {f n : ℕ} → f ≡ 9 → (9 ≡ f) × (_≡_ {A = ℕ} 9 0 → n < 2 ^ 59)
 refused e = (sym e, λ z. absurd (omega arith))
 
-kind-ok-requires : tie.Need-kind-ok-requires
-kind-ok-requires c κs = search needs
-
 returns : tie.Need-returns
 unfolding headerOk
 returns c = refused (rule-broken _ _ (and-no _ (sym (c .before .kind-ok .ensures) ∙ not-true (c .before .kind-ok .result) (c .if1 .taken))))
-
-directions-ok-requires : tie.Need-directions-ok-requires
-directions-ok-requires c κs = search needs
 
 returns-2 : tie.Need-returns-2
 unfolding headerOk
@@ -30,9 +24,6 @@ returns-2 c = let no =
     and-yes _ (sym (c .before .before .before .kind-ok .ensures) ∙ not-false (c .before .before .before .kind-ok .result) (c .before .before .if1 .left))
     ∙ and-no _ (sym (c .before .directions-ok .ensures) ∙ not-true (c .before .directions-ok .result) (c .if2 .taken)) in
     refused (rule-broken _ _ no)
-
-pixel-bytes-requires : tie.Need-pixel-bytes-requires
-pixel-bytes-requires c κs = search needs
 
 returns-3 : tie.Need-returns-3
 unfolding headerOk
@@ -56,10 +47,10 @@ pub rule-fault-spec : {M : Type 1} → statement M
 rule-fault-spec =
     tie.close
     (tie.spec
-    kind-ok-requires
+    (λ c κs. search needs)
     returns
-    directions-ok-requires
+    (λ c κs. search needs)
     returns-2
-    pixel-bytes-requires
+    (λ c κs. search needs)
     returns-3
     returns-4)

@@ -3,16 +3,10 @@ use mathlib.Core.Path.{refl, sym}
 use native.Mathlib.Omega.{arith}
 use lib.ListN.{List·getD-eq-default}
 use borrow.Author.Needs.{needs}
-use Rattle.image.specs.Image.{scalarSizes, scalarSize}
+use Rattle.image.specs.ImageReader.{scalarSizes, scalarSize}
 use Rattle.image.proofs.Rule.{scalar-le}
 use Rattle.image.proofs.scalar_size.Statement.{statement}
 use Rattle.image.proofs.scalar_size.Tie as tie
-
-mul-result : tie.Need-mul-result
-mul-result c = search needs
-
-array-read-result : tie.Need-array-read-result
-array-read-result c = search needs
 
 returns : tie.Need-returns
 unfolding scalarSize
@@ -23,4 +17,4 @@ unfolding scalarSize
 returns-2 c = (sym (List·getD-eq-default scalarSizes 0 (c .if1 .left)), omega arith)
 
 pub scalar-size-spec : {M : Type 1} → statement M
-scalar-size-spec = tie.close (tie.spec mul-result array-read-result returns returns-2)
+scalar-size-spec = tie.close (tie.spec (λ c. search needs) (λ c. search needs) returns returns-2)

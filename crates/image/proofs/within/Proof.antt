@@ -2,7 +2,7 @@
 use mathlib.Core.Path.{sym, _∙_}
 use borrow.Author.Tests.{le-leb, lt-leb}
 use borrow.Author.Needs.{needs}
-use Rattle.image.specs.Image.{within}
+use Rattle.image.specs.ImageReader.{within}
 use Rattle.image.proofs.Rule.{and-no, and-yes}
 use Rattle.image.proofs.within.Statement.{statement}
 use Rattle.image.proofs.within.Tie as tie
@@ -15,9 +15,6 @@ returns-2 : tie.Need-returns-2
 unfolding within
 returns-2 c = sym (and-yes _ (le-leb _ _ (c .before .if1 .left)) ∙ and-no _ (lt-leb _ _ (c .if2 .taken)))
 
-add-result : tie.Need-add-result
-add-result c = search needs
-
 returns-3 : tie.Need-returns-3
 unfolding within
 returns-3 c = sym (and-yes _ (le-leb _ _ (c .before .if1 .left)) ∙ and-yes _ (le-leb _ _ (c .if2 .left)))
@@ -28,5 +25,5 @@ within-spec =
     (tie.spec
     returns
     returns-2
-    add-result
+    (λ c. search needs)
     returns-3)

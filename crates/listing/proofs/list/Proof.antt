@@ -15,22 +15,10 @@ Inv-loop stream at₀ step₀ at step = at + step ≤ length stream
 abbrev μ-loop : tie.MeasureT-loop
 μ-loop stream at₀ step₀ at step = length stream - at
 
-list-at-requires : tie.Need-list-at-requires Inv-loop μ-loop
-list-at-requires c κs = search needs
-
 loop-holds : tie.Need-loop-holds Inv-loop μ-loop
 loop-holds c =
     let stream = c .before .before .args .stream .now in
     omega (arith, c .list-at .ensures, step-within New (drop 0 stream), length-drop 0 stream)
-
-add-at : tie.Need-add-at Inv-loop μ-loop
-add-at c = search needs
-
-list-at-requires-2 : tie.Need-list-at-requires-2 Inv-loop μ-loop
-list-at-requires-2 c κs = search needs
-
-loop-less : tie.Need-loop-less Inv-loop μ-loop
-loop-less c = search needs
 
 loop-again : tie.Need-loop-again Inv-loop μ-loop
 loop-again c =
@@ -39,19 +27,16 @@ loop-again c =
     let at = l .at + l .step in
     omega (arith, c .list-at2 .ensures, step-within New (drop at stream), length-drop at stream)
 
-returns : tie.Need-returns Inv-loop μ-loop
-returns c = search needs
-
 pub list-spec : {M : Type 1} → statement M
 list-spec =
     tie.close
     (tie.spec
     Inv-loop
     μ-loop
-    list-at-requires
+    (λ c κs. search needs)
     loop-holds
-    add-at
-    list-at-requires-2
-    loop-less
+    (λ c. search needs)
+    (λ c κs. search needs)
+    (λ c. search needs)
     loop-again
-    returns)
+    (λ c. search needs))

@@ -18,12 +18,12 @@ use Rattle.fields.proofs.Laws.Layout.{join-cut, cut-join, length-join}
 use Rattle.fields.proofs.Laws.Stores.{stores-join}
 use Rattle.fields.proofs.Laws.Checks.{and-split, and-join, cond-pass}
 use Rattle.fields.proofs.Laws.Tests.{is-false, by-test}
-use Rattle.metadata.specs.MetadataCheck.{indexIn}
+use Rattle.metadata.specs.MetadataCheck.{indexSizeIn}
 use Rattle.message.specs.declared.Layout.{Layout}
 use Rattle.message.specs.declared.extended.ExtendedNumbers.{ExtendedNumbers}
 use Rattle.message.specs.declared.body.Places.{Places}
 use Rattle.message.specs.Body.{Sections, extendedNumbers, extendedFields, encodeBody, Plain, MetadataFits, Extended, WellSections}
-use Rattle.message.specs.MessageReader.{extendedSize, indexAt, sectionSize, idAt, reservedOk, indexFault, extendedOk, bodyFault, sizesFault, extendedPlaces, plainPlaces, placesOf, sectionsAt, sectionsOf}
+use Rattle.message.specs.MessageReader.{extendedSize, indexAt, sectionSize, idAt, reservedOk, indexSizeFault, extendedOk, extendedFault, sizesFault, extendedPlaces, plainPlaces, placesOf, sectionsAt, sectionsOf}
 use Rattle.message.specs.BodyTheorems.{IsVersion, BreaksExtended, Agrees, BodyTheorems}
 use Rattle.message.proofs.Laws.Layout.{NumbersAt, numbers-fit, ReadAs, numbers-read, numbers-back, id-lt, section-fits, reserved-set, index-agreed, index-disagreed, index-seven, index-passed, agrees-1, extended-same, numbers-same}
 
@@ -49,21 +49,21 @@ module _ (l : Layout) (v : ℕ) (b : List ℕ) where
   unfolding placesOf
   places-2 h = ap (λ (t : Bool). cond t (extendedPlaces l b) (plainPlaces b)) (eq-eqb v 2 h)
 
-  pub fault-1 : (v ≡ 2 → ⊥) → bodyFault l v b ≡ 0
-  unfolding bodyFault
+  pub fault-1 : (v ≡ 2 → ⊥) → extendedFault l v b ≡ 0
+  unfolding extendedFault
   fault-1 h = ap (λ (t : Bool). cond t (cond (extendedOk l b) 0 6) 0) (ne-eqb v 2 h)
 
-  pub fault-2 : v ≡ 2 → bodyFault l v b ≡ cond (extendedOk l b) 0 6
-  unfolding bodyFault
+  pub fault-2 : v ≡ 2 → extendedFault l v b ≡ cond (extendedOk l b) 0 6
+  unfolding extendedFault
   fault-2 h = ap (λ (t : Bool). cond t (cond (extendedOk l b) 0 6) 0) (eq-eqb v 2 h)
 
   pub sizes-1 : (s : List ℕ) → (v ≡ 2 → ⊥) → sizesFault l v b s ≡ 0
   unfolding sizesFault
-  sizes-1 s h = ap (λ (t : Bool). cond t (indexFault l b s) 0) (ne-eqb v 2 h)
+  sizes-1 s h = ap (λ (t : Bool). cond t (indexSizeFault l b s) 0) (ne-eqb v 2 h)
 
-  pub sizes-2 : (s : List ℕ) → v ≡ 2 → sizesFault l v b s ≡ indexFault l b s
+  pub sizes-2 : (s : List ℕ) → v ≡ 2 → sizesFault l v b s ≡ indexSizeFault l b s
   unfolding sizesFault
-  sizes-2 s h = ap (λ (t : Bool). cond t (indexFault l b s) 0) (eq-eqb v 2 h)
+  sizes-2 s h = ap (λ (t : Bool). cond t (indexSizeFault l b s) 0) (eq-eqb v 2 h)
 
 -- ---- check 6
 
@@ -88,7 +88,7 @@ pass l b p =
     (and-join (leb 12 (extendedSize b)) _ (le-leb 12 (extendedSize b) (p .size))
     (and-join (reservedOk l b) _ (p .reserved) (le-leb (extendedSize b + sectionSize l b) (length b) (p .fits))))
 
-pub passed-2 : (l : Layout) (v : ℕ) (b : List ℕ) → v ≡ 2 → bodyFault l v b ≡ 0 → Passed l b
+pub passed-2 : (l : Layout) (v : ℕ) (b : List ℕ) → v ≡ 2 → extendedFault l v b ≡ 0 → Passed l b
 passed-2 l v b e h = passed l b (cond-pass (extendedOk l b) 5 0 (sym (fault-2 l v b e) ∙ h) .0)
 
 -- ---- V 1
@@ -233,7 +233,7 @@ sections-1 l v b e = ap (λ (p : Places). sectionsAt p b) (places-1 l v b (not-t
 sections-2 : (l : Layout) (v : ℕ) (b : List ℕ) → v ≡ 2 → sectionsOf l v b ≡ sectionsAt (extendedPlaces l b) b
 sections-2 l v b e = ap (λ (p : Places). sectionsAt p b) (places-2 l v b e)
 
-module _ (l : Layout) (v : ℕ) (b : List ℕ) (h : Bytes b) (o : IsVersion v) (k : bodyFault l v b ≡ 0) where
+module _ (l : Layout) (v : ℕ) (b : List ℕ) (h : Bytes b) (o : IsVersion v) (k : extendedFault l v b ≡ 0) where
   pub body-accepted : WellSections l v (indexAt b) (sectionsOf l v b)
   body-accepted =
       ⊎-elim
@@ -255,7 +255,7 @@ plain-is : (x : Sections) → Plain x → record { id = 0; further = []; content
 plain-is x p = λ i. record { id = sym (p .no-id) i; further = sym (p .no-further) i; content = x .content; metadata = sym (p .no-metadata) i }
 
 module _ (l : Layout) (v k : ℕ) (x : Sections) (w : WellSections l v k x) where
-  pub body-well : bodyFault l v (encodeBody l v k x) ≡ 0
+  pub body-well : extendedFault l v (encodeBody l v k x) ≡ 0
   body-well =
       ⊎-elim (λ e. fault-1 l v (encodeBody l v k x) (not-two v (e .0)))
       (λ e.
@@ -306,12 +306,12 @@ sizes-passed l v b s o h =
     ⊎-elim (λ e. agrees-1 l v (indexAt b) s (not-two v e)) (λ e. index-passed l v b s (sym (sizes-2 l v b s e) ∙ h)) o
 
 module _ (l : Layout) (v k : ℕ) (x : Sections) (s : List ℕ) (a : Agrees l v k s) where
-  pub well-same : WellSections l v k x → WellSections l v (indexIn s) x
+  pub well-same : WellSections l v k x → WellSections l v (indexSizeIn s) x
   well-same w = ⊎-elim (λ e. inl e) (λ e. inr (e .0, extended-same l v k s x (e .0) a (e .1))) w
 
-  pub body-same : IsVersion v → encodeBody l v k x ≡ encodeBody l v (indexIn s) x
+  pub body-same : IsVersion v → encodeBody l v k x ≡ encodeBody l v (indexSizeIn s) x
   body-same o =
-      ⊎-elim (λ e. body-1 l v k x (not-two v e) ∙ sym (body-1 l v (indexIn s) x (not-two v e)))
+      ⊎-elim (λ e. body-1 l v k x (not-two v e) ∙ sym (body-1 l v (indexSizeIn s) x (not-two v e)))
       (λ e.
       body-2 l v k x e
       ∙ ap
@@ -326,7 +326,7 @@ module _ (l : Layout) (v k : ℕ) (x : Sections) (s : List ℕ) (a : Agrees l v 
       ∷ x .metadata
       ∷ []))
       (numbers-same l v k (length (x .metadata)) (x .id) s e a)
-      ∙ sym (body-2 l v (indexIn s) x e))
+      ∙ sym (body-2 l v (indexSizeIn s) x e))
       o
 
 -- ---- check 6 refuses what breaks it
@@ -343,7 +343,7 @@ breaks l b h p =
 pub not-extended : (l : Layout) (b : List ℕ) → (Passed l b → ⊥) → extendedOk l b ≡ false
 not-extended l b h = is-false (extendedOk l b) (λ k. h (passed l b k))
 
-pub extended-refused : (l : Layout) (v : ℕ) (b : List ℕ) → v ≡ 2 → BreaksExtended l b → bodyFault l v b ≡ 6
+pub extended-refused : (l : Layout) (v : ℕ) (b : List ℕ) → v ≡ 2 → BreaksExtended l b → extendedFault l v b ≡ 6
 extended-refused l v b e h = fault-2 l v b e ∙ ap (λ (t : Bool). cond t 0 6) (not-extended l b (breaks l b h))
 
 -- the last test of check 6, as the code makes it

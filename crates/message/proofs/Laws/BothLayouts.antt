@@ -7,29 +7,29 @@ use native.Mathlib.Omega.{arith}
 use lib.ListN.{length}
 use borrow.Author.Tests.{ne-eqb}
 use Rattle.header.specs.Header.{limit}
-use Rattle.header.specs.Check.{headerOf}
+use Rattle.header.specs.HeaderReader.{headerOf}
 use Rattle.metadata.specs.Metadata.{Metadata, WellMetadata, indexSize, encodeMetadata}
 use Rattle.metadata.proofs.Laws.MetadataTheorems.{metadata-theorems}
 use Rattle.message.specs.declared.Layout.{Layout}
 use Rattle.message.specs.declared.Layout.the-variants.{New, Old}
 use Rattle.message.specs.Body.{Sections, extendedNumbers, MetadataFits, WellSections, encodeBody}
 use Rattle.message.specs.Message.{Message, WellFormed, Parts, partsOf, encodeWith, encode}
-use Rattle.message.specs.MessageReader.{bodyFault, sizesFault, foundFault, placesOf, bodyChecks, bodyClean, numberOf, readOf}
-use Rattle.message.specs.MessageWriter.{fits, fitFault, sectionsChecks, writeChecks, writeFault, messageWritten, messageOut}
+use Rattle.message.specs.MessageReader.{extendedFault, sizesFault, foundFault, placesOf, bodyFault, bodyClean, streamFault, readOf}
+use Rattle.message.specs.MessageWriter.{fits, fitFault, givenSectionsFault, givenFault, messageWritten, messageOut}
 use Rattle.message.specs.BothLayouts.{BothLayouts}
 use Rattle.message.proofs.Laws.Body.{length-1, length-2}
 
 module _ (l o : Layout) where
   same-read : (s : List ℕ) → (headerOf s .version ≡ 2 → ⊥) → readOf l s ≡ readOf o s
-  unfolding readOf numberOf bodyChecks bodyClean foundFault sizesFault bodyFault placesOf
+  unfolding readOf streamFault bodyFault bodyClean foundFault sizesFault extendedFault placesOf
   same-read s h = rw (ne-eqb (headerOf s .version) 2 h) refl
 
   same-written : (p : Parts) (room : ℕ) → (p .version ≡ 2 → ⊥) → messageWritten l p room ≡ messageWritten o p room
-  unfolding messageWritten writeFault writeChecks sectionsChecks fitFault fits encodeWith encodeBody
+  unfolding givenFault givenSectionsFault fitFault fits encodeWith encodeBody
   same-written p room h = rw (ne-eqb (p .version) 2 h) refl
 
   same-out : (p : Parts) (out : List ℕ) → (p .version ≡ 2 → ⊥) → messageOut l p out ≡ messageOut o p out
-  unfolding messageOut writeFault writeChecks sectionsChecks fitFault fits encodeWith encodeBody
+  unfolding givenFault givenSectionsFault fitFault fits encodeWith encodeBody
   same-out p out h = rw (ne-eqb (p .version) 2 h) refl
 
 -- MSG_ID 0, and metadata that is no more than its index
@@ -49,7 +49,7 @@ both-fit Old k m h n = n
 index-within : (m : Metadata) → WellMetadata m → indexSize m ≤ length (encodeMetadata m)
 index-within m w =
     subst (λ (n : ℕ). n ≤ length (encodeMetadata m)) (metadata-theorems .index-in m w)
-    (metadata-theorems .index-within (encodeMetadata m) (metadata-theorems .well-accepted m w))
+    (metadata-theorems .index-within (encodeMetadata m) (metadata-theorems .two-way .well-accepted m w))
 
 module _ (l o : Layout) (v k : ℕ) (x : Sections) where
   same-sections : k ≤ length (x .metadata) → length (x .metadata) < 256 ^ 2 → WellSections l v k x → WellSections o v k x

@@ -12,11 +12,11 @@ use Rattle.fields.specs.Checks.{orElse}
 use Rattle.fields.proofs.Laws.Bytes.{front-part}
 use Rattle.fields.proofs.Laws.Checks.{zero-else, else-second, else-zero}
 use Rattle.header.specs.Header.{Header}
-use Rattle.header.specs.Check as header
-use Rattle.header.specs.Check.{headerOf, headerFault}
+use Rattle.header.specs.HeaderReader as header
+use Rattle.header.specs.HeaderReader.{headerOf, headerFault}
 use Rattle.header.proofs.Laws.Front.{header-front, fault-front}
 use Rattle.message.specs.declared.Layout.{Layout}
-use Rattle.message.specs.MessageReader.{bodyChecks, bodyClean, bodyAt, frontFault, numberOf, stepOf, placesOf, refused, accepted, readOf}
+use Rattle.message.specs.MessageReader.{bodyFault, bodyClean, bodyAt, frontFault, streamFault, stepOf, placesOf, refused, accepted, readOf}
 use Rattle.message.proofs.Laws.Stream.{is-some, whole-pass, whole-passed, whole-refused, step-whole, read-step}
 use Rattle.message.proofs.Laws.Read.{front-refused}
 
@@ -60,11 +60,11 @@ module _ (s t : List ℕ) (z : frontFault s ≡ 0) (e : take (58 + headerOf s .b
       let b : headerOf s .bodySize ≡ headerOf t .bodySize = ap (λ (h : Header). h .bodySize) (header-front s t same-header) in
       front-pass t (sym (fault-front s t same-header) ∙ k .0) (omega (arith, k .1, b, length-take n s, length-take n t, ap length e))
 
-  same-number : (l : Layout) → numberOf l s ≡ numberOf l t
-  unfolding numberOf
+  same-number : (l : Layout) → streamFault l s ≡ streamFault l t
+  unfolding streamFault
   same-number l =
       ap₂ orElse (z ∙ sym also-whole)
-      (ap₂ (λ (h : Header) (b : List ℕ). bodyChecks l (h .version) (h .crc) (h .typeText) b) (header-front s t same-header) same-body)
+      (ap₂ (λ (h : Header) (b : List ℕ). bodyFault l (h .version) (h .crc) (h .typeText) b) (header-front s t same-header) same-body)
 
   same-step : stepOf s ≡ stepOf t
   same-step =

@@ -14,12 +14,12 @@ use Rattle.fields.specs.Numbers.{beVal, beAt}
 use Rattle.fields.proofs.Laws.Numbers.{beAt-lt}
 use Rattle.fields.proofs.Laws.Checks.{cond-pass, cond-refused}
 use Rattle.header.specs.Header.{limit}
-use Rattle.metadata.specs.MetadataCheck.{indexCount, indexIn}
+use Rattle.metadata.specs.MetadataCheck.{indexCount, indexSizeIn}
 use Rattle.message.specs.declared.Layout.{Layout}
 use Rattle.message.specs.declared.Layout.the-variants.{New, Old}
 use Rattle.message.specs.declared.extended.ExtendedNumbers.{ExtendedNumbers}
 use Rattle.message.specs.Body.{Sections, extendedNumbers, MetadataFits, Extended}
-use Rattle.message.specs.MessageReader.{indexAt, sectionSize, idAt, reservedOk, indexFault}
+use Rattle.message.specs.MessageReader.{indexAt, sectionSize, idAt, reservedOk, indexSizeFault}
 use Rattle.message.specs.BodyTheorems.{Agrees}
 use Rattle.message.specs.MessageWriter.{sizeFits}
 use Rattle.message.specs.MessageNumbers.{SizeUnfit, HasIndex}
@@ -75,20 +75,20 @@ reserved-set l b e h k = h (eqb-true (beAt 4 8 b) 0 (ap (λ (o : Layout). reserv
 -- ---- check 7 of the sizes
 
 module _ (v k m id : ℕ) (b s : List ℕ) where
-  pub index-agreed : (l : Layout) → NumbersAt b (extendedNumbers l k m id) → v ≡ 2 → Agrees l v k s → indexFault l b s ≡ 0
-  index-agreed New n e a = ap (λ (t : Bool). cond t 0 7) (eq-eqb (indexAt b) (indexIn s) (n .second ∙ a e))
+  pub index-agreed : (l : Layout) → NumbersAt b (extendedNumbers l k m id) → v ≡ 2 → Agrees l v k s → indexSizeFault l b s ≡ 0
+  index-agreed New n e a = ap (λ (t : Bool). cond t 0 7) (eq-eqb (indexAt b) (indexSizeIn s) (n .second ∙ a e))
   index-agreed Old n e a = refl
 
-  pub index-disagreed : (l : Layout) → NumbersAt b (extendedNumbers l k m id) → (Agrees l v k s → ⊥) → indexFault l b s ≡ 7
-  index-disagreed New n h = ap (λ (t : Bool). cond t 0 7) (ne-eqb (indexAt b) (indexIn s) (λ z. h (λ e. sym (n .second) ∙ z)))
+  pub index-disagreed : (l : Layout) → NumbersAt b (extendedNumbers l k m id) → (Agrees l v k s → ⊥) → indexSizeFault l b s ≡ 7
+  index-disagreed New n h = ap (λ (t : Bool). cond t 0 7) (ne-eqb (indexAt b) (indexSizeIn s) (λ z. h (λ e. sym (n .second) ∙ z)))
   index-disagreed Old n h = absurd (h tt)
 
-pub index-seven : (l : Layout) (b s : List ℕ) → (indexFault l b s ≡ 0 → ⊥) → indexFault l b s ≡ 7
-index-seven New b s h = cond-refused (eqb (indexAt b) (indexIn s)) 7 h
+pub index-seven : (l : Layout) (b s : List ℕ) → (indexSizeFault l b s ≡ 0 → ⊥) → indexSizeFault l b s ≡ 7
+index-seven New b s h = cond-refused (eqb (indexAt b) (indexSizeIn s)) 7 h
 index-seven Old b s h = absurd (h refl)
 
-pub index-passed : (l : Layout) (v : ℕ) (b s : List ℕ) → indexFault l b s ≡ 0 → Agrees l v (indexAt b) s
-index-passed New v b s h = λ e. eqb-true (indexAt b) (indexIn s) (cond-pass (eqb (indexAt b) (indexIn s)) 6 0 h .0)
+pub index-passed : (l : Layout) (v : ℕ) (b s : List ℕ) → indexSizeFault l b s ≡ 0 → Agrees l v (indexAt b) s
+index-passed New v b s h = λ e. eqb-true (indexAt b) (indexSizeIn s) (cond-pass (eqb (indexAt b) (indexSizeIn s)) 6 0 h .0)
 index-passed Old v b s h = tt
 
 -- not of V 2: nothing to agree
@@ -96,20 +96,20 @@ pub agrees-1 : (l : Layout) (v k : ℕ) (s : List ℕ) → (v ≡ 2 → ⊥) →
 agrees-1 New v k s h = λ e. absurd (h e)
 agrees-1 Old v k s h = tt
 
-pub agrees-same : (l : Layout) (v k : ℕ) (s : List ℕ) → k ≡ indexIn s → Agrees l v k s
+pub agrees-same : (l : Layout) (v k : ℕ) (s : List ℕ) → k ≡ indexSizeIn s → Agrees l v k s
 agrees-same New v k s e = λ _. e
 agrees-same Old v k s e = tt
 
 -- sizes that agree can be replaced by the section's
-pub extended-same : (l : Layout) (v k : ℕ) (s : List ℕ) (x : Sections) → v ≡ 2 → Agrees l v k s → Extended l k x → Extended l (indexIn s) x
+pub extended-same : (l : Layout) (v k : ℕ) (s : List ℕ) (x : Sections) → v ≡ 2 → Agrees l v k s → Extended l k x → Extended l (indexSizeIn s) x
 extended-same l v k s x e a w =
     record { id-fits = w .id-fits; further-bytes = w .further-bytes; further-fits = w .further-fits; metadata-fits = fits-same l a (w .metadata-fits) }
   where
-    fits-same : (o : Layout) → Agrees o v k s → MetadataFits o k (length (x .metadata)) → MetadataFits o (indexIn s) (length (x .metadata))
+    fits-same : (o : Layout) → Agrees o v k s → MetadataFits o k (length (x .metadata)) → MetadataFits o (indexSizeIn s) (length (x .metadata))
     fits-same New c f = subst (λ (j : ℕ). MetadataFits New j (length (x .metadata))) (c e) f
     fits-same Old c f = f
 
-pub numbers-same : (l : Layout) (v k m id : ℕ) (s : List ℕ) → v ≡ 2 → Agrees l v k s → extendedNumbers l k m id ≡ extendedNumbers l (indexIn s) m id
+pub numbers-same : (l : Layout) (v k m id : ℕ) (s : List ℕ) → v ≡ 2 → Agrees l v k s → extendedNumbers l k m id ≡ extendedNumbers l (indexSizeIn s) m id
 numbers-same New v k m id s e a = ap (λ (j : ℕ). extendedNumbers New j m id) (a e)
 numbers-same Old v k m id s e a = refl
 
@@ -119,34 +119,34 @@ pub fits-well : (l : Layout) (k m : ℕ) → MetadataFits l k m → sizeFits l k
 fits-well New k m f = le-leb k 65535 (omega (arith, f .1))
 fits-well Old k m f = le-leb m 65535 (omega (arith, f))
 
-pub fit-metadata : (l : Layout) (v : ℕ) (s : List ℕ) → v ≡ 2 → sizeFits l (indexIn s) (length s) ≡ true → HasIndex l v s → length s ≤ limit
-    → MetadataFits l (indexIn s) (length s)
-fit-metadata New v s e h i n = (i e, omega (arith, leb-true (indexIn s) 65535 h), omega arith)
+pub fit-metadata : (l : Layout) (v : ℕ) (s : List ℕ) → v ≡ 2 → sizeFits l (indexSizeIn s) (length s) ≡ true → HasIndex l v s → length s ≤ limit
+    → MetadataFits l (indexSizeIn s) (length s)
+fit-metadata New v s e h i n = (i e, omega (arith, leb-true (indexSizeIn s) 65535 h), omega arith)
 fit-metadata Old v s e h i n = omega (arith, leb-true (length s) 65535 h)
 
-pub has-index : (l : Layout) (v : ℕ) (s : List ℕ) → indexIn s ≤ length s → HasIndex l v s
+pub has-index : (l : Layout) (v : ℕ) (s : List ℕ) → indexSizeIn s ≤ length s → HasIndex l v s
 has-index New v s h = λ _. h
 has-index Old v s h = tt
 
 -- by INDEX_COUNT
-index-some : (s : List ℕ) → 0 < indexCount s → indexIn s ≡ 2 + 8 * indexCount s
-unfolding indexIn beVal
+index-some : (s : List ℕ) → 0 < indexCount s → indexSizeIn s ≡ 2 + 8 * indexCount s
+unfolding indexSizeIn beVal
 index-some [] h = omega (arith, h)
 index-some (x ∷ s) h = simp (ne-eqb (length (x ∷ s)) 0 (λ e. omega (arith, e)))
 
-index-most : (s : List ℕ) → indexIn s ≤ 2 + 8 * indexCount s
-unfolding indexIn beVal
+index-most : (s : List ℕ) → indexSizeIn s ≤ 2 + 8 * indexCount s
+unfolding indexSizeIn beVal
 index-most [] = omega arith
 index-most (x ∷ s) =
-    let e : indexIn (x ∷ s) ≡ 2 + 8 * indexCount (x ∷ s) = simp (ne-eqb (length (x ∷ s)) 0 (λ z. omega (arith, z))) in
+    let e : indexSizeIn (x ∷ s) ≡ 2 + 8 * indexCount (x ∷ s) = simp (ne-eqb (length (x ∷ s)) 0 (λ z. omega (arith, z))) in
     omega (arith, e)
 
-pub unfit-size : (l : Layout) (s : List ℕ) → SizeUnfit l s → sizeFits l (indexIn s) (length s) ≡ true → ⊥
-unfit-size New s u h = omega (arith, u, index-some s (omega (arith, u)), leb-true (indexIn s) 65535 h)
+pub unfit-size : (l : Layout) (s : List ℕ) → SizeUnfit l s → sizeFits l (indexSizeIn s) (length s) ≡ true → ⊥
+unfit-size New s u h = omega (arith, u, index-some s (omega (arith, u)), leb-true (indexSizeIn s) 65535 h)
 unfit-size Old s u h = omega (arith, u, leb-true (length s) 65535 h)
 
-pub fit-size : (l : Layout) (s : List ℕ) → (SizeUnfit l s → ⊥) → sizeFits l (indexIn s) (length s) ≡ true
+pub fit-size : (l : Layout) (s : List ℕ) → (SizeUnfit l s → ⊥) → sizeFits l (indexSizeIn s) (length s) ≡ true
 fit-size New s h =
     let n : indexCount s < 8192 = lt-of-not-le (λ k. h (omega (arith, k))) in
-    le-leb (indexIn s) 65535 (omega (arith, n, index-most s))
+    le-leb (indexSizeIn s) 65535 (omega (arith, n, index-most s))
 fit-size Old s h = le-leb (length s) 65535 (omega (arith, lt-of-not-le h))

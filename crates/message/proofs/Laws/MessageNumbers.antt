@@ -16,21 +16,23 @@ use Rattle.fields.proofs.Laws.Checks.{zero-else, else-zero, else-fault, else-se
 use Rattle.fields.specs.Text.{allZero}
 use Rattle.fields.proofs.Laws.Text.{all-zeros}
 use Rattle.fields.proofs.Laws.Tests.{by-test, by-zero, is-false, true-false}
-use Rattle.fields.proofs.Laws.Answer.{written-wrote, written-number, out-wrote, out-refused}
+use Rattle.fields.specs.Writers.{WriterTheorems}
+use Rattle.fields.proofs.Laws.Writers.{writer-passed, answer-wrote, out-filled, writer-theorems}
 use Rattle.fields.proofs.Laws.Received.{zero-fills}
 use Rattle.crc64.specs.Crc.{crcOf}
 use Rattle.crc64.proofs.Laws.{crc-lt}
 use Rattle.header.specs.declared.HeaderRead.{HeaderRead}
 use Rattle.header.specs.Header.{Header, WellTexts, HeaderFits, limit}
-use Rattle.header.specs.Check.{headerOf, headerFault, headerRead, namesFault, limitFault}
-use Rattle.header.specs.Check as header
+use Rattle.header.specs.HeaderReader.{headerOf, headerFault, headerRead, limitFault}
+use Rattle.header.specs.HeaderWriter.{namesFault}
+use Rattle.header.specs.HeaderReader as header
 use Rattle.header.specs.HeaderTheorems.{BeginsWith}
 use Rattle.metadata.specs.MetadataCheck.{metadataFault}
 use Rattle.metadata.specs.MetadataTheorems.{IsMetadata}
 use Rattle.content.specs.ContentCheck.{contentFault, contentClean, deepest}
 use Rattle.content.specs.Tree.{Content, typeText, cleaned, IsClean}
 use Rattle.content.specs.Tree as tree
-use Rattle.content.specs.ContentTheorems.{IsContent}
+use Rattle.content.proofs.Laws.Contents.{IsContent}
 use Rattle.content.proofs.ContentTheorems.{content-theorems}
 use Rattle.content.proofs.Laws.Cleaned.{cleaned-type}
 use Rattle.content.proofs.Laws.Marks.{content-mark, mark-from}
@@ -40,8 +42,8 @@ use Rattle.message.specs.declared.Layout.{Layout}
 use Rattle.message.specs.declared.body.Places.{Places}
 use Rattle.message.specs.Body.{Sections, Plain, MetadataFits, WellSections}
 use Rattle.message.specs.Message.{Parts, headerFor}
-use Rattle.message.specs.MessageReader.{refused, versionFault, bodyFault, sizesFault, sectionsFault, foundFault, placesOf, sectionsOf, bodyChecks, bodyAt, frontFault, numberOf, readOf}
-use Rattle.message.specs.MessageWriter.{bodyGiven, encodeParts, cleanParts, fitOk, fitFault, sectionsChecks, writeChecks, writeFault, messageWritten, messageOut}
+use Rattle.message.specs.MessageReader.{refused, versionFault, extendedFault, sizesFault, sectionsFault, foundFault, placesOf, sectionsOf, bodyFault, bodyAt, frontFault, streamFault, readOf}
+use Rattle.message.specs.MessageWriter.{bodyGiven, encodeParts, cleanParts, fitOk, fitFault, givenSectionsFault, givenFault, messageBytes, messageWritten}
 use Rattle.message.specs.BodyTheorems.{IsVersion, BreaksExtended, Agrees}
 use Rattle.message.specs.MessageNumbers.{Whole, Sound, LaidOut, numberAndStep, Refusals, Given, Unfit, HasIndex, ReadBack, WriterNumbers}
 use Rattle.header.proofs.Laws.Layout.{header-read, header-number}
@@ -74,15 +76,15 @@ cut-short l s h b n =
 -- ---- a refusal of the whole
 
 module _ (l : Layout) (s : List ℕ) (h : Header) (b : List ℕ) (w : Whole s h b) where
-  body-says : (n : ℕ) → bodyChecks l (h .version) (h .crc) (h .typeText) b ≡ suc n → readOf l s ≡ refused (suc n) (58 + h .bodySize)
+  body-says : (n : ℕ) → bodyFault l (h .version) (h .crc) (h .typeText) b ≡ suc n → readOf l s ≡ refused (suc n) (58 + h .bodySize)
   body-says n e =
       let f : HeaderFits h = w .well .fits in
       let o : frontFault s ≡ 0 =
       ap frontFault (sym (w .front)) ∙ whole-front h b (w .rest) f (w .size) ∙ limit-pass (h .bodySize) (w .well .size-limit) in
       let g : headerOf s ≡ h = ap headerOf (sym (w .front)) ∙ whole-header h b (w .rest) f (w .size) in
       let k : bodyAt s ≡ b = ap bodyAt (sym (w .front)) ∙ whole-body h b (w .rest) f (w .size) in
-      let c : bodyChecks l (headerOf s .version) (headerOf s .crc) (headerOf s .typeText) (bodyAt s) ≡ suc n =
-      ap₂ (λ (x : Header) (y : List ℕ). bodyChecks l (x .version) (x .crc) (x .typeText) y) g k ∙ e in
+      let c : bodyFault l (headerOf s .version) (headerOf s .crc) (headerOf s .typeText) (bodyAt s) ≡ suc n =
+      ap₂ (λ (x : Header) (y : List ℕ). bodyFault l (x .version) (x .crc) (x .typeText) y) g k ∙ e in
       sym (body-refused l s o (suc n) (sym c) (is-some (suc n) n refl)) ∙ ap (λ (x : Header). refused (suc n) (58 + x .bodySize)) g
 
   says-version : (h .version ≡ 1 → ⊥) → (h .version ≡ 2 → ⊥) → readOf l s ≡ refused 4 (58 + h .bodySize)
@@ -102,11 +104,11 @@ module _ (l : Layout) (s : List ℕ) (h : Header) (b : List ℕ) (w : Whole s h 
     read-as : sectionsOf l (h .version) b ≡ x
     read-as = ap (sectionsOf l (h .version)) (sym (o .body)) ∙ body-read l (h .version) k x (o .well)
 
-    laid-checks : bodyChecks l (h .version) (h .crc) (h .typeText) b
+    laid-checks : bodyFault l (h .version) (h .crc) (h .typeText) b
         ≡ orElse (sizesFault l (h .version) b (x .metadata)) (orElse (metadataFault (x .metadata)) (contentFault deepest (h .typeText) (x .content)))
     unfolding foundFault sectionsFault
     laid-checks =
-        sym (checks-rest l (h .version) (h .crc) (h .typeText) b (version-pass (h .version) (o .sound .version)) (o .sound .crc) (ap (bodyFault l (h .version)) (sym (o .body)) ∙ body-well l (h .version) k x (o .well)))
+        sym (checks-rest l (h .version) (h .crc) (h .typeText) b (version-pass (h .version) (o .sound .version)) (o .sound .crc) (ap (extendedFault l (h .version)) (sym (o .body)) ∙ body-well l (h .version) k x (o .well)))
         ∙ ap (foundFault l (h .version) (h .typeText) b) read-as
 
     metadata-bytes : Bytes (x .metadata)
@@ -127,7 +129,7 @@ module _ (l : Layout) (s : List ℕ) (h : Header) (b : List ℕ) (w : Whole s h 
 
     says-metadata : (IsMetadata (x .metadata) → ⊥) → readOf l s ≡ refused 7 (58 + h .bodySize)
     says-metadata d =
-        let e : metadataFault (x .metadata) ≡ 7 = metadata-theorems .refused (x .metadata) metadata-bytes d in
+        let e : metadataFault (x .metadata) ≡ 7 = metadata-theorems .two-way .refused (x .metadata) metadata-bytes d in
         let f : orElse (metadataFault (x .metadata)) (contentFault deepest (h .typeText) (x .content)) ≡ 7 = else-fault (metadataFault (x .metadata)) _ 6 e in
         body-says 6
         (laid-checks
@@ -139,11 +141,11 @@ module _ (l : Layout) (s : List ℕ) (h : Header) (b : List ℕ) (w : Whole s h 
         → readOf l s ≡ refused (contentFault deepest (h .typeText) (x .content)) (58 + h .bodySize)
     says-content m a d = go (contentFault deepest (h .typeText) (x .content)) refl
       where
-        checks : bodyChecks l (h .version) (h .crc) (h .typeText) b ≡ contentFault deepest (h .typeText) (x .content)
+        checks : bodyFault l (h .version) (h .crc) (h .typeText) b ≡ contentFault deepest (h .typeText) (x .content)
         checks =
             laid-checks
             ∙ else-second (sizesFault l (h .version) b (x .metadata)) _ (sizes-agreed a)
-            ∙ else-second (metadataFault (x .metadata)) _ (ap metadataFault (sym (m .bytes)) ∙ metadata-theorems .well-accepted (m .metadata) (m .well))
+            ∙ else-second (metadataFault (x .metadata)) _ (ap metadataFault (sym (m .2)) ∙ metadata-theorems .two-way .well-accepted (m .0) (m .1))
 
         go : (n : ℕ) → contentFault deepest (h .typeText) (x .content) ≡ n → readOf l s ≡ refused (contentFault deepest (h .typeText) (x .content)) (58 + h .bodySize)
         go zero e = absurd (d e)
@@ -167,13 +169,11 @@ refusals l =
 
 -- ---- the writer
 
-number-fault : (l : Layout) (p : Parts) (room : ℕ) → writtenNumber (messageWritten l p room) ≡ writeFault l p room
-unfolding messageWritten
-number-fault l p room = written-number (writeFault l p room) (length (encodeParts l p))
+abbrev written : (l : Layout) (p : Parts) → WriterTheorems (givenFault l p) (messageBytes l p)
+written l p = writer-theorems (givenFault l p) (messageBytes l p)
 
-checks-say : (l : Layout) (p : Parts) (room n : ℕ) → writeChecks l p ≡ suc n → writtenNumber (messageWritten l p room) ≡ suc n
-unfolding writeFault
-checks-say l p room n e = number-fault l p room ∙ else-fault (writeChecks l p) _ n e
+checks-say : (l : Layout) (p : Parts) (room n : ℕ) → givenFault l p ≡ suc n → writtenNumber (messageWritten l p room) ≡ suc n
+checks-say l p room n e = written l p .number room ∙ else-fault (givenFault l p) _ n e
 
 says-names : (l : Layout) (p : Parts) (room : ℕ) → (WellTexts (p .typeText) (p .deviceName) → ⊥) → writtenNumber (messageWritten l p room) ≡ 2
 says-names l p room h =
@@ -240,7 +240,7 @@ fit-well l p g o n h i =
 -- of sections that fit, the writer's checks are the reader's
 same-checks : (l : Layout) (p : Parts) → Given l p → (Unfit l (p .version) (p .sections) → ⊥) → HasIndex l (p .version) (p .sections .metadata)
     → length (bodyGiven l p) ≤ limit
-    → sectionsChecks l (p .version) (p .typeText) (p .sections) ≡ bodyChecks l (p .version) (crcOf (bodyGiven l p)) (p .typeText) (bodyGiven l p)
+    → givenSectionsFault l (p .version) (p .typeText) (p .sections) ≡ bodyFault l (p .version) (crcOf (bodyGiven l p)) (p .typeText) (bodyGiven l p)
 same-checks l p g h i n =
     by-zero (versionFault (p .version))
     (λ e.
@@ -262,18 +262,14 @@ given-header l p g t =
       crc-fits = crc-lt (bodyGiven l p);
     }
 
-says-reader : (l : Layout) (p : Parts) (room : ℕ) → Given l p → WellTexts (p .typeText) (p .deviceName) → (Unfit l (p .version) (p .sections) → ⊥)
-    → HasIndex l (p .version) (p .sections .metadata)
-    → writtenNumber (messageWritten l p room) ≡ orElse (readOf l (encodeParts l p) .number) (roomFault (length (encodeParts l p)) room)
-unfolding writeFault
-says-reader l p room g t h i =
-    let k : writeChecks l p ≡ readOf l (encodeParts l p) .number =
+checks-reader : (l : Layout) (p : Parts) → Given l p → WellTexts (p .typeText) (p .deviceName) → (Unfit l (p .version) (p .sections) → ⊥)
+    → HasIndex l (p .version) (p .sections .metadata) → givenFault l p ≡ readOf l (encodeParts l p) .number
+checks-reader l p g t h i =
     write-texts l p (names-pass (p .typeText) (p .deviceName) t)
     ∙ else-same (limitFault (length (bodyGiven l p))) _ _ (λ z. same-checks l p g h i (limit-passed (length (bodyGiven l p)) z))
     ∙ sym (parts-number l (indexOf p) p [] (given-header l p g t))
-    ∙ ap (numberOf l) (append-nil (encodeParts l p))
-    ∙ sym (read-number l (encodeParts l p)) in
-    number-fault l p room ∙ ap (λ (n : ℕ). orElse n (roomFault (length (encodeParts l p)) room)) k
+    ∙ ap (streamFault l) (append-nil (encodeParts l p))
+    ∙ sym (read-number l (encodeParts l p))
 
 says-no-metadata : (l : Layout) (p : Parts) (room : ℕ) → WellTexts (p .typeText) (p .deviceName) → length (bodyGiven l p) ≤ limit → IsVersion (p .version)
     → (Unfit l (p .version) (p .sections) → ⊥) → Bytes (p .sections .metadata) → (IsMetadata (p .sections .metadata) → ⊥)
@@ -281,32 +277,23 @@ says-no-metadata : (l : Layout) (p : Parts) (room : ℕ) → WellTexts (p .typeT
 unfolding sectionsFault
 says-no-metadata l p room t n o h b d =
     let x : Sections = p .sections in
-    let e : metadataFault (x .metadata) ≡ 7 = metadata-theorems .refused (x .metadata) b d in
+    let e : metadataFault (x .metadata) ≡ 7 = metadata-theorems .two-way .refused (x .metadata) b d in
     checks-say l p room 6
     (sym (write-rest l p (names-pass (p .typeText) (p .deviceName) t) n)
     ∙ sym (sections-rest l (p .version) (p .typeText) x (version-pass (p .version) o) (fit-ok l (p .version) x o h))
     ∙ else-fault (metadataFault (x .metadata)) _ 6 e)
 
-says-untouched : (l : Layout) (p : Parts) (out : List ℕ) → (writtenNumber (messageWritten l p (length out)) ≡ 0 → ⊥) → messageOut l p out ≡ out
-unfolding messageOut
-says-untouched l p out h =
-    out-refused (writeFault l p (length out)) (encodeParts l (cleanParts p)) out (λ z. h (number-fault l p (length out) ∙ z))
-
 -- ---- what is written is read back
 
 -- the bytes of p are accepted, and p stands in them
-parts-accepted : (l : Layout) (p : Parts) (room : ℕ) → Given l p → writeFault l p room ≡ 0
-    → (numberOf l (encodeParts l p) ≡ 0) × (partsAt l (encodeParts l p) ≡ p)
-unfolding writeFault
-parts-accepted l p room g z =
-    let w = writable l p (zero-else (writeChecks l p) _ z .0) in
+parts-accepted : (l : Layout) (p : Parts) → Given l p → givenFault l p ≡ 0 → (streamFault l (encodeParts l p) ≡ 0) × (partsAt l (encodeParts l p) ≡ p)
+parts-accepted l p g z =
+    let w = writable l p z in
     let t = names-passed (p .typeText) (p .deviceName) (w .names) in
     let i = written-index l p w in
     let fit : Unfit l (p .version) (p .sections) → ⊥ =
-    λ u. true-false (fitOk l (p .version) (p .sections)) (w .fit) (unfit-refused l (p .version) (p .sections) u) in
-    let a : readOf l (encodeParts l p) .number ≡ 0 =
-    zero-else (readOf l (encodeParts l p) .number) _ (sym (says-reader l p room g t fit i) ∙ number-fault l p room ∙ z) .0 in (
-      number-read l (encodeParts l p) a,
+    λ u. true-false (fitOk l (p .version) (p .sections)) (w .fit) (unfit-refused l (p .version) (p .sections) u) in (
+      number-read l (encodeParts l p) (sym (checks-reader l p g t fit i) ∙ z),
       ap (partsAt l) (sym (append-nil (encodeParts l p)))
           ∙ parts-read l (indexOf p) p [] (given-header l p g t) (fit-well l p g (w .version) (w .short) fit i),
     )
@@ -334,21 +321,21 @@ pub record CleanedContent (t c : List ℕ) : Type 0 where
 
 cleaned-content : (t c : List ℕ) → Bytes c → contentFault deepest t c ≡ 0 → CleanedContent t c
 cleaned-content t c b z =
-    let k : IsContent deepest t c = content-theorems .accepted deepest t c b z in
-    let x : Content = k .content in
+    let k : IsContent deepest t c = content-theorems .two-way deepest t .accepted c b z in
+    let x : Content = k .0 in
     record {
       content = cleaned x;
-      well = content-theorems .cleaned-well deepest x (k .well);
+      well = content-theorems .cleaned-well deepest x (k .1 .0);
       clean = content-theorems .cleaned-clean x;
-      type = cleaned-type x ∙ k .type;
-      bytes = sym (cleaning-theorems .cleaned-bytes deepest x (k .well)) ∙ ap₂ (cleanBytes deepest) (k .type) (k .bytes);
+      type = cleaned-type x ∙ k .1 .1;
+      bytes = sym (cleaning-theorems .cleaned-bytes deepest x (k .1 .0)) ∙ ap₂ (cleanBytes deepest) (k .1 .1) (k .2);
     }
 
 -- it passes, and its mark is true
 module _ (t c : List ℕ) (k : CleanedContent t c) where
   cleaned-passes : contentFault deepest t (cleanBytes deepest t c) ≡ 0
   cleaned-passes =
-      ap₂ (contentFault deepest) (sym (k .type)) (sym (k .bytes)) ∙ content-theorems .well-accepted deepest (k .content) (k .well)
+      ap (contentFault deepest t) (sym (k .bytes)) ∙ content-theorems .two-way deepest t .well-accepted (k .content) (k .well, k .type)
 
   cleaned-marked : contentClean deepest t (cleanBytes deepest t c) ≡ true
   cleaned-marked =
@@ -357,8 +344,8 @@ module _ (t c : List ℕ) (k : CleanedContent t c) where
       ∙ mark-from deepest (k .content) (k .well) (k .clean)
 
 -- the content of what passes the writer's checks passes
-content-passes : (l : Layout) (p : Parts) → writeChecks l p ≡ 0 → contentFault deepest (p .typeText) (p .sections .content) ≡ 0
-unfolding writeChecks sectionsChecks sectionsFault
+content-passes : (l : Layout) (p : Parts) → givenFault l p ≡ 0 → contentFault deepest (p .typeText) (p .sections .content) ≡ 0
+unfolding givenFault givenSectionsFault sectionsFault
 content-passes l p z =
     let a = zero-else (namesFault (p .typeText) (p .deviceName)) _ z in
     let b = zero-else (limitFault (length (bodyGiven l p))) _ (a .1) in
@@ -366,8 +353,8 @@ content-passes l p z =
     let f = zero-else (fitFault l (p .version) (p .sections)) _ (v .1) in
     zero-else (metadataFault (p .sections .metadata)) _ (f .1) .1
 
-cleaned-checks : (l : Layout) (p : Parts) → CleanedContent (p .typeText) (p .sections .content) → writeChecks l p ≡ 0 → writeChecks l (cleanParts p) ≡ 0
-unfolding writeChecks sectionsChecks fitFault sectionsFault
+cleaned-checks : (l : Layout) (p : Parts) → CleanedContent (p .typeText) (p .sections .content) → givenFault l p ≡ 0 → givenFault l (cleanParts p) ≡ 0
+unfolding givenFault givenSectionsFault fitFault sectionsFault
 cleaned-checks l p k z =
     let a = zero-else (namesFault (p .typeText) (p .deviceName)) _ z in
     let b = zero-else (limitFault (length (bodyGiven l p))) _ (a .1) in
@@ -402,20 +389,15 @@ cleaned-mark l p g k =
 
 says-read-back : (l : Layout) (p : Parts) (out : List ℕ) → Given l p → Bytes (p .sections .content) → writtenNumber (messageWritten l p (length out)) ≡ 0
     → ReadBack l p out
-unfolding messageWritten messageOut writeFault
 says-read-back l p out g b h =
-    let z : writeFault l p (length out) ≡ 0 = sym (number-fault l p (length out)) ∙ h in
-    let y = zero-else (writeChecks l p) (roomFault (length (encodeParts l p)) (length out)) z in
-    let k = cleaned-content (p .typeText) (p .sections .content) b (content-passes l p (y .0)) in
     let q : Parts = cleanParts p in
-    let n : length (encodeParts l q) ≡ length (encodeParts l p) = length-cleaned l p in
-    let f : writeFault l q (length out) ≡ 0 =
-    else-zero (writeChecks l q) (roomFault (length (encodeParts l q)) (length out)) (cleaned-checks l p k (y .0))
-    (ap (λ (i : ℕ). roomFault i (length out)) n ∙ y .1) in
-    let r = parts-accepted l q (length out) (cleaned-given l p g) f in
+    let z = sym (written l p .number (length out)) ∙ h in
+    let y = writer-passed (givenFault l p) (messageBytes l p) (length out) z .0 in
+    let k = cleaned-content (p .typeText) (p .sections .content) b (content-passes l p y) in
+    let r = parts-accepted l q (cleaned-given l p g) (cleaned-checks l p k y) in
     record {
-      count = ap writtenCount (written-wrote (writeFault l p (length out)) (length (encodeParts l p)) z);
-      bytes = out-wrote (writeFault l p (length out)) (encodeParts l q) out z ∙ ap (λ (i : ℕ). encodeParts l q ++ drop i out) n;
+      count = ap writtenCount (answer-wrote (givenFault l p) (messageBytes l p) (length out) z) ∙ length-cleaned l p;
+      bytes = out-filled (givenFault l p) (messageBytes l p) out z ∙ ap (λ (i : ℕ). encodeParts l q ++ drop i out) (length-cleaned l p);
       accepted = read-number l (encodeParts l q) ∙ r .0;
       clean = read-mark l (encodeParts l q) (r .0) ∙ ap cleanFor (r .1) ∙ cleaned-mark l p g k;
       handed-out = handed-parts l (encodeParts l q) (r .0) ∙ ap zeroTexts (r .1) ∙ given-zeros l q (cleaned-given l p g);
@@ -428,7 +410,9 @@ writer-numbers l =
       too-long = says-too-long l;
       unfit = says-unfit l;
       no-metadata = says-no-metadata l;
-      as-reader = says-reader l;
-      untouched = says-untouched l;
+      as-reader = λ p room g t h i.
+          written l p .number room ∙ ap₂ (λ (n k : ℕ). orElse n (roomFault k room)) (checks-reader l p g t h i) (length-cleaned l p);
+      promised = λ p out left answer k. (k .written, k .buffer);
+      untouched = λ p out. written l p .untouched out;
       read-back = says-read-back l;
     }

@@ -1,6 +1,6 @@
 -- Messages: the front of a stream is accepted exactly when some message is written as it.
 use Prim.Native.Nat.{ℕ, _+_, _^_, _<_, _≤_}
-use mathlib.Core.Path.{_≡_, refl, sym, ap, ap₂, _∙_, subst}
+use mathlib.Core.Path.{_≡_, refl, sym, ap, ap₂, _∙_, subst, subst⁻¹}
 use mathlib.Core.Logic.{inl, inr, ⊎-elim}
 use mathlib.Core.Bool.{true, false, _&&_}
 use mathlib.Core.List.{List, _++_}
@@ -15,18 +15,19 @@ use Rattle.fields.specs.Received.{zeroed, Fills}
 use Rattle.fields.proofs.Laws.Bytes.{bytes-part, length-part}
 use Rattle.fields.proofs.Laws.Checks.{else-zero, and-split, and-join}
 use Rattle.fields.proofs.Laws.Received.{zeros-to, zeros-from, zeroed-fills, zeroed-zeroed, fills-zeros}
-use Rattle.fields.proofs.Laws.Answer.{written-wrote, out-wrote, room-enough}
+use Rattle.fields.proofs.Laws.Writers.{writer-theorems}
 use Rattle.crc64.specs.Crc.{crcOf}
 use Rattle.crc64.proofs.Laws.{crc-lt}
 use Rattle.header.specs.Header.{Header, WellTexts, HeaderFits, WellHeader, limit}
-use Rattle.header.specs.Check.{headerOf, namesFault, limitFault}
+use Rattle.header.specs.HeaderReader.{headerOf, limitFault}
+use Rattle.header.specs.HeaderWriter.{namesFault}
 use Rattle.metadata.specs.Metadata.{encodeMetadata, indexSize}
-use Rattle.metadata.specs.MetadataCheck.{indexIn, metadataFault}
+use Rattle.metadata.specs.MetadataCheck.{indexSizeIn, metadataFault}
 use Rattle.metadata.specs.MetadataTheorems.{IsMetadata}
 use Rattle.content.specs.Tree.{typeText}
 use Rattle.content.specs.Tree as tree
 use Rattle.content.specs.ContentCheck.{contentClean, deepest}
-use Rattle.content.specs.ContentTheorems.{IsContent}
+use Rattle.content.proofs.Laws.Contents.{IsContent}
 use Rattle.content.proofs.ContentTheorems.{content-theorems}
 use Rattle.content.proofs.Laws.Cleaned.{cleaned-type, length-cleaned}
 use Rattle.content.proofs.Laws.Marks.{content-mark, mark-to, mark-from}
@@ -36,15 +37,15 @@ use Rattle.message.specs.declared.Answer.{Answer}
 use Rattle.message.specs.declared.body.Places.{Places}
 use Rattle.message.specs.Body.{Sections, WellSections}
 use Rattle.message.specs.Message.{Message, Parts, partsOf, bodyOf, headerFor, encodeWith, messageBody, encode, WellFormed, RestsFill, cleaned, Clean, handedOut}
-use Rattle.message.specs.MessageReader.{indexAt, versionFault, sectionsFault, sectionsOf, bodyAt, numberOf, readOf, handed, placesOf}
-use Rattle.message.specs.MessageWriter.{bodyLength, bodyGiven, encodeParts, cleanParts, fitFault, sectionsChecks, writeChecks, writeFault, messageWritten, messageOut}
+use Rattle.message.specs.MessageReader.{indexAt, versionFault, sectionsFault, sectionsOf, bodyAt, streamFault, readOf, handed, placesOf}
+use Rattle.message.specs.MessageWriter.{bodyLength, bodyGiven, encodeParts, cleanParts, fitFault, givenSectionsFault, givenFault, messageBytes, messageWritten, messageOut}
 use Rattle.message.specs.Demand2.{Begins, givenBack, Demand2}
 use Rattle.header.proofs.Laws.Layout.{header-fits, fits-texts}
 use Rattle.header.proofs.Laws.Faults.{names-pass, limit-pass}
 use Rattle.metadata.proofs.Laws.MetadataTheorems.{metadata-theorems}
 use Rattle.message.proofs.Laws.Body.{body-accepted, well-same}
 use Rattle.message.proofs.Laws.Stream.{Accepted, number-accepted, read-accepted, read-refused, read-number, number-read, version-pass, partsAt, zeroTexts, handed-parts, cleanFor, read-mark, indexOf, sizes-agree, body-read-back, parts-back, whole-header}
-use Rattle.message.proofs.Laws.Writer.{length-body, well-fit, well-version, length-parts, parts-front, parts-number, checks-sections, parts-read}
+use Rattle.message.proofs.Laws.Writer.{length-body, well-fit, well-version, length-parts, parts-front, parts-number, checks-sections, parts-read, length-cleaned as length-written}
 
 -- ---- a well formed message
 
@@ -69,8 +70,8 @@ well-texts l m w = fits-texts (headerFor l (indexSize (m .metadata)) (partsOf m)
 sections-passed : (l : Layout) (m : Message) → WellFormed l m → sectionsFault (typeText (m .content)) (partsOf m .sections) ≡ 0
 unfolding sectionsFault
 sections-passed l m w =
-    else-zero (metadataFault (encodeMetadata (m .metadata))) _ (metadata-theorems .well-accepted (m .metadata) (w .metadata))
-    (content-theorems .well-accepted deepest (m .content) (w .content))
+    else-zero (metadataFault (encodeMetadata (m .metadata))) _ (metadata-theorems .two-way .well-accepted (m .metadata) (w .metadata))
+    (content-theorems .two-way deepest (typeText (m .content)) .well-accepted (m .content) (w .content, refl))
 
 -- the index's size is the one that its bytes have, so that its bytes are those of its parts
 index-of : (l : Layout) (m : Message) → WellFormed l m → indexOf (partsOf m) ≡ indexSize (m .metadata)
@@ -81,9 +82,9 @@ same-bytes l m w = ap (λ (k : ℕ). encodeWith l k (partsOf m)) (index-of l m w
 
 -- ---- a stream that begins with it
 
-begun-number : (l : Layout) (s : List ℕ) (m : Message) → Begins l s m → numberOf l s ≡ 0
+begun-number : (l : Layout) (s : List ℕ) (m : Message) → Begins l s m → streamFault l s ≡ 0
 begun-number l s m b =
-    ap (numberOf l) (sym (b .bytes))
+    ap (streamFault l) (sym (b .bytes))
     ∙ parts-number l (indexSize (m .metadata)) (partsOf m) (b .rest) (header-of l m (b .well))
     ∙ else-zero (limitFault (length (messageBody l m))) _ (limit-pass (length (messageBody l m)) (b .well .size-limit))
     (checks-sections l (indexSize (m .metadata)) (partsOf m) (b .well .sections) (sym (index-of l m (b .well))) ∙ sections-passed l m (b .well))
@@ -136,8 +137,8 @@ accepted-message l s b a =
     let q : Places = placesOf l v (bodyAt s) in
     let bc : Bytes (x .content) = bytes-part (q .«content_len») (q .«content_at») (bodyAt s) bb in
     let bm : Bytes (x .metadata) = bytes-part (q .«metadata_len») (q .«metadata_at») (bodyAt s) bb in
-    let c : IsContent deepest (h .typeText) (x .content) = content-theorems .accepted deepest (h .typeText) (x .content) bc (a .content) in
-    let d : IsMetadata (x .metadata) = metadata-theorems .accepted (x .metadata) bm (a .metadata) in
+    let c : IsContent deepest (h .typeText) (x .content) = content-theorems .two-way deepest (h .typeText) .accepted (x .content) bc (a .content) in
+    let d : IsMetadata (x .metadata) = metadata-theorems .two-way .accepted (x .metadata) bm (a .metadata) in
     let w : WellHeader h = header-fits s b (a .header) in
     let m : Message =
     record {
@@ -148,22 +149,22 @@ accepted-message l s b a =
       timeStamp = h .timeStamp;
       id = x .id;
       further = x .further;
-      content = c .content;
-      metadata = d .metadata;
+      content = c .0;
+      metadata = d .0;
     } in
-    let y : partsOf m .sections ≡ x = λ i. record { id = x .id; further = x .further; content = c .bytes i; metadata = d .bytes i } in
+    let y : partsOf m .sections ≡ x = λ i. record { id = x .id; further = x .further; content = c .2 i; metadata = d .2 i } in
     let p : partsOf m ≡ partsAt l s = λ i.
     record {
       version = v;
-      typeText = c .type i;
+      typeText = c .1 .1 i;
       typeRest = h .typeRest;
       deviceName = h .deviceName;
       nameRest = h .nameRest;
       timeStamp = h .timeStamp;
       sections = y i;
     } in
-    let k : indexSize (d .metadata) ≡ indexOf (partsAt l s) = sym (metadata-theorems .index-in (d .metadata) (d .well)) ∙ ap indexIn (d .bytes) in
-    let g : WellSections l v (indexIn (x .metadata)) x =
+    let k : indexSize (d .0) ≡ indexOf (partsAt l s) = sym (metadata-theorems .index-in (d .0) (d .1)) ∙ ap indexSizeIn (d .2) in
+    let g : WellSections l v (indexSizeIn (x .metadata)) x =
     well-same l v (indexAt (bodyAt s)) x (x .metadata) (sizes-agree l s a) (body-accepted l v (bodyAt s) bb (a .version) (a .body)) in
     let n : length (messageBody l m) ≡ h .bodySize =
     ap₂ (λ (i : ℕ) (q : Parts). length (bodyOf l i q)) k p
@@ -173,12 +174,12 @@ accepted-message l s b a =
       record {
         well =
             record {
-              type-fills = subst (λ (t : List ℕ). Fills 12 t (h .typeRest)) (sym (c .type)) (w .fits .type-fills);
+              type-fills = subst (λ (t : List ℕ). Fills 12 t (h .typeRest)) (sym (c .1 .1)) (w .fits .type-fills);
               name-fills = w .fits .name-fills;
               stamp-fits = w .fits .stamp-fits;
-              sections = subst (λ (i : ℕ). WellSections l v i (partsOf m .sections)) (sym k) (subst (WellSections l v (indexIn (x .metadata))) (sym y) g);
-              content = c .well;
-              metadata = d .well;
+              sections = subst (λ (i : ℕ). WellSections l v i (partsOf m .sections)) (sym k) (subst (WellSections l v (indexSizeIn (x .metadata))) (sym y) g);
+              content = c .1 .0;
+              metadata = d .1;
               size-limit = subst (λ (k : ℕ). k ≤ limit) (sym n) (w .size-limit);
             };
         rest = drop (58 + h .bodySize) s;
@@ -195,7 +196,7 @@ parts-unique l m n wm wn e =
     let c : m .content ≡ n .content =
     content-theorems .unique deepest deepest (m .content) (n .content) (wm .content) (wn .content) (ap (λ (p : Parts). p .typeText) e) (ap (λ (p : Parts). p .sections .content) e) in
     let d : m .metadata ≡ n .metadata =
-    metadata-theorems .unique (m .metadata) (n .metadata) (wm .metadata) (wn .metadata) (ap (λ (p : Parts). p .sections .metadata) e) in
+    metadata-theorems .two-way .only-one (m .metadata) (n .metadata) (wm .metadata) (wn .metadata) (ap (λ (p : Parts). p .sections .metadata) e) in
     λ i.
     record {
       version = e i .version;
@@ -309,30 +310,20 @@ handed-length : (l : Layout) (m : Message) → WellFormed l m → length (encode
 handed-length l m w =
     length-parts l (indexOf (handedOut m)) (handedOut m) ∙ sym (length-parts l (indexOf (partsOf m)) (partsOf m)) ∙ ap length (same-bytes l m w)
 
-pub well-written : (l : Layout) (m : Message) (room : ℕ) → WellFormed l m → length (encode l m) ≤ room → writeFault l (handedOut m) room ≡ 0
-unfolding writeFault writeChecks sectionsChecks
-well-written l m room w h =
+pub well-written : (l : Layout) (m : Message) → WellFormed l m → givenFault l (handedOut m) ≡ 0
+unfolding givenFault givenSectionsFault
+well-written l m w =
     let p : Parts = handedOut m in
     let n : length (bodyGiven l p) ≤ limit = subst (λ (k : ℕ). length (bodyOf l k p) ≤ limit) (sym (index-of l m w)) (w .size-limit) in
     let g : WellSections l (m .version) (indexOf p) (p .sections) =
     subst (λ (k : ℕ). WellSections l (m .version) k (p .sections)) (sym (index-of l m w)) (w .sections) in
-    else-zero (writeChecks l p) _
-    (else-zero (namesFault (typeText (m .content)) (m .deviceName)) _ (names-pass (typeText (m .content)) (m .deviceName) (well-texts l m w))
+    else-zero (namesFault (typeText (m .content)) (m .deviceName)) _ (names-pass (typeText (m .content)) (m .deviceName) (well-texts l m w))
     (else-zero (limitFault (length (bodyGiven l p))) _ (limit-pass (length (bodyGiven l p)) n)
     (else-zero (versionFault (m .version)) _ (version-pass (m .version) (well-version l (m .version) (indexOf p) (p .sections) g))
-    (else-zero (fitFault l (m .version) (p .sections)) _ (well-fit l (m .version) (p .sections) g) (sections-passed l m w)))))
-    (room-enough (length (encodeParts l p)) room (subst (λ (k : ℕ). k ≤ room) (sym (handed-length l m w)) h))
+    (else-zero (fitFault l (m .version) (p .sections)) _ (well-fit l (m .version) (p .sections) g) (sections-passed l m w))))
 
 begun-take : (l : Layout) (s : List ℕ) (m : Message) → Begins l s m → take (length (encode l m)) s ≡ encode l m
 begun-take l s m b = ap (take (length (encode l m))) (sym (b .bytes)) ∙ take-at (encode l m) (b .rest) (length (encode l m)) refl
-
-begun-answered : (l : Layout) (s : List ℕ) (m : Message) (room : ℕ) → Begins l s m → readOf l s .step ≤ room → messageWritten l (givenBack s (readOf l s)) room ≡ Wrote (readOf l s .step)
-unfolding messageWritten
-begun-answered l s m room b h =
-    let k : length (encode l m) ≤ room = subst (λ (n : ℕ). n ≤ room) (begun-step l s m b) h in
-    ap (λ (p : Parts). messageWritten l p room) (begun-handed l s m b)
-    ∙ written-wrote (writeFault l (handedOut m) room) (length (encodeParts l (handedOut m))) (well-written l m room (b .well) k)
-    ∙ ap Wrote (handed-length l m (b .well) ∙ sym (begun-step l s m b))
 
 -- what is handed out, cleaned, is the cleaned message
 cleaned-parts : (l : Layout) (m : Message) → WellFormed l m → cleanParts (handedOut m) ≡ partsOf (cleaned m)
@@ -355,15 +346,23 @@ cleaned-whole l m =
     let k : ℕ = indexSize (m .metadata) in
     length-parts l k (partsOf (cleaned m)) ∙ ap (λ (n : ℕ). 58 + n) (cleaned-length l m) ∙ sym (length-parts l k (partsOf m))
 
-begun-written : (l : Layout) (s out : List ℕ) (m : Message) → Begins l s m → readOf l s .step ≤ length out
-    → messageOut l (givenBack s (readOf l s)) out ≡ encode l (cleaned m) ++ drop (readOf l s .step) out
-unfolding messageOut
-begun-written l s out m b h =
-    let k : length (encode l m) ≤ length out = subst (λ (n : ℕ). n ≤ length out) (begun-step l s m b) h in
-    ap (λ (p : Parts). messageOut l p out) (begun-handed l s m b)
-    ∙ out-wrote (writeFault l (handedOut m) (length out)) (encodeParts l (cleanParts (handedOut m))) out (well-written l m (length out) (b .well) k)
-    ∙ ap (λ (r : List ℕ). r ++ drop (length r) out) (ap (encodeParts l) (cleaned-parts l m (b .well)) ∙ same-bytes l (cleaned m) (cleaned-well l m (b .well)))
-    ∙ ap (λ (n : ℕ). encode l (cleaned m) ++ drop n out) (cleaned-whole l m ∙ sym (begun-step l s m b))
+-- k: there is room
+module _ (l : Layout) (s : List ℕ) (m : Message) (b : Begins l s m) where
+  long : length (messageBytes l (handedOut m)) ≡ readOf l s .step
+  long = length-written l (handedOut m) ∙ handed-length l m (b .well) ∙ sym (begun-step l s m b)
+
+  begun-answered : (room : ℕ) → readOf l s .step ≤ room → messageWritten l (givenBack s (readOf l s)) room ≡ Wrote (readOf l s .step)
+  begun-answered room k =
+      ap (λ (p : Parts). messageWritten l p room) (begun-handed l s m b)
+      ∙ writer-theorems (givenFault l (handedOut m)) (messageBytes l (handedOut m)) .wrote room (well-written l m (b .well)) (subst⁻¹ (λ (n : ℕ). n ≤ room) long k)
+      ∙ ap Wrote long
+
+  begun-written : (out : List ℕ) → readOf l s .step ≤ length out
+      → messageOut l (givenBack s (readOf l s)) out ≡ encode l (cleaned m) ++ drop (readOf l s .step) out
+  begun-written out k =
+      ap (λ (p : Parts). messageOut l p out) (begun-handed l s m b)
+      ∙ writer-theorems (givenFault l (handedOut m)) (messageBytes l (handedOut m)) .buffer out (well-written l m (b .well)) (subst⁻¹ (λ (n : ℕ). n ≤ length out) long k)
+      ∙ ap₂ (λ (r : List ℕ) (n : ℕ). r ++ drop n out) (ap (encodeParts l) (cleaned-parts l m (b .well)) ∙ same-bytes l (cleaned m) (cleaned-well l m (b .well))) long
 
 -- byte for byte if it is clean, and only then
 same-clean : (l : Layout) (s : List ℕ) (m : Message) → Begins l s m → encode l (cleaned m) ≡ take (readOf l s .step) s → Clean m
@@ -399,8 +398,8 @@ demand-2 l =
       no-mark = no-mark l;
       answered-back = λ s room b h k.
           let a = accepted-message l s b (number-accepted l s (number-read l s h)) in
-          begun-answered l s (a .0) room (a .1) k;
-      written-back = begun-written l;
+          begun-answered l s (a .0) (a .1) room k;
+      written-back = λ s out m b k. begun-written l s m b out k;
       same-bytes = λ s m b. (
         (λ e. begun-mark l s m b ∙ clean-mark l m (b .well) (same-clean l s m b e)),
         (λ e. clean-bytes l s m b (mark-clean l m (b .well) (sym (begun-mark l s m b) ∙ e))),

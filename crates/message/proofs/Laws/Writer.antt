@@ -14,27 +14,30 @@ use Rattle.fields.specs.Bytes.{part}
 use Rattle.fields.specs.Checks.{orElse}
 use Rattle.fields.proofs.Laws.Bytes.{length-part}
 use Rattle.fields.proofs.Laws.Stores.{sets-front}
-use Rattle.fields.proofs.Laws.Checks.{zero-else, else-zero, else-first, else-fault, else-second, cond-pass, and-split, and-join}
+use Rattle.fields.proofs.Laws.Checks.{zero-else, else-first, else-fault, else-second, cond-pass, and-split, and-join}
 use Rattle.fields.proofs.Laws.Tests.{by-test}
-use Rattle.fields.proofs.Laws.Answer.{written-wrote, written-refused, out-wrote, out-refused, room-enough, room-short}
+use Rattle.fields.proofs.Laws.Writers.{refuses, writes}
+use Rattle.fields.specs.Answer.{roomFault}
+use Rattle.fields.specs.Writers.{writerFault, WriterPromise}
+use Rattle.fields.specs.declared.Written.{Written}
 use Rattle.fields.specs.declared.Written.the-variants.{Wrote, Refused}
 use Rattle.crc64.specs.Crc.{crcOf}
 use Rattle.header.specs.Header.{Header, HeaderFits, encodeHeader, limit}
-use Rattle.header.specs.Check.{headerOf, namesFault, limitFault, headerOut}
-use Rattle.header.specs.Check as header
-use Rattle.metadata.specs.MetadataCheck.{indexIn, metadataFault}
+use Rattle.header.specs.HeaderReader.{headerOf, limitFault}
+use Rattle.header.specs.HeaderWriter.{namesFault, headerOut}
+use Rattle.metadata.specs.MetadataCheck.{indexSizeIn, metadataFault}
 use Rattle.metadata.proofs.Laws.MetadataTheorems.{metadata-theorems}
 use Rattle.content.specs.ContentCheck.{deepest}
 use Rattle.cleaning.proofs.Laws.Lengths.{length-clean}
 use Rattle.message.specs.declared.Layout.{Layout}
 use Rattle.message.specs.Body.{Sections, Plain, MetadataFits, WellSections, encodeBody}
 use Rattle.message.specs.Message.{Parts, bodyOf, headerFor, encodeWith}
-use Rattle.message.specs.MessageReader.{versionFault, sizesFault, sectionsFault, foundFault, sectionsOf, bodyChecks, bodyAt, numberOf}
-use Rattle.message.specs.MessageWriter.{bodyGiven, encodeParts, bodyLength, sizeFits, fits, fitOk, fitFault, sectionsChecks, writeChecks, writeFault, cleanParts, messageWritten, messageOut}
+use Rattle.message.specs.MessageReader.{versionFault, sizesFault, sectionsFault, foundFault, sectionsOf, bodyFault, bodyAt, streamFault}
+use Rattle.message.specs.MessageWriter.{bodyGiven, encodeParts, bodyLength, sizeFits, fits, fitOk, fitFault, givenSectionsFault, givenFault, cleanParts, messageBytes}
 use Rattle.message.specs.BodyTheorems.{IsVersion}
 use Rattle.message.specs.MessageNumbers.{HasIndex}
 use Rattle.header.proofs.Laws.Layout.{length-header}
-use Rattle.header.proofs.Laws.Writer.{write-room, out-header}
+use Rattle.header.proofs.Laws.Writer.{given-passes, out-header}
 use Rattle.header.proofs.Laws.Faults.{limit-pass, limit-passed, limit-refused}
 use Rattle.message.proofs.Laws.Layout.{agrees-same, fits-well, fit-metadata, has-index}
 use Rattle.message.proofs.Laws.Body.{body-well, body-read, body-agreed, length-1, length-2}
@@ -48,7 +51,7 @@ unfolding fits
 fit-1 l v x h = simp (ne-eqb v 2 h)
 
 fit-2 : (l : Layout) (v : ℕ) (x : Sections) → v ≡ 2
-    → fitOk l v x ≡ (leb (12 + length (x .further)) 65535 && sizeFits l (indexIn (x .metadata)) (length (x .metadata)))
+    → fitOk l v x ≡ (leb (12 + length (x .further)) 65535 && sizeFits l (indexSizeIn (x .metadata)) (length (x .metadata)))
 unfolding fits
 fit-2 l v x h = simp (eq-eqb v 2 h)
 
@@ -124,11 +127,11 @@ plain-passed l v x h k =
 
 -- V 2
 pub sizes-pass : (l : Layout) (v : ℕ) (x : Sections) → v ≡ 2 → 12 + length (x .further) ≤ 65535
-    → sizeFits l (indexIn (x .metadata)) (length (x .metadata)) ≡ true → fitOk l v x ≡ true
+    → sizeFits l (indexSizeIn (x .metadata)) (length (x .metadata)) ≡ true → fitOk l v x ≡ true
 sizes-pass l v x h a b = fit-2 l v x h ∙ and-join (leb (12 + length (x .further)) 65535) _ (le-leb (12 + length (x .further)) 65535 a) b
 
 pub sizes-passed : (l : Layout) (v : ℕ) (x : Sections) → v ≡ 2 → fitOk l v x ≡ true
-    → (12 + length (x .further) ≤ 65535) × (sizeFits l (indexIn (x .metadata)) (length (x .metadata)) ≡ true)
+    → (12 + length (x .further) ≤ 65535) × (sizeFits l (indexSizeIn (x .metadata)) (length (x .metadata)) ≡ true)
 sizes-passed l v x h k =
     let a = and-split (leb (12 + length (x .further)) 65535) _ (sym (fit-2 l v x h) ∙ k) in
     (leb-true _ _ (a .0), a .1)
@@ -146,12 +149,12 @@ unfolding fitFault
 fit-refused l v x h = ap (λ (t : Bool). cond t 0 6) h
 
 -- the sections of a body pass
-pub well-fit : (l : Layout) (v : ℕ) (x : Sections) → WellSections l v (indexIn (x .metadata)) x → fitFault l v x ≡ 0
+pub well-fit : (l : Layout) (v : ℕ) (x : Sections) → WellSections l v (indexSizeIn (x .metadata)) x → fitFault l v x ≡ 0
 well-fit l v x w =
     fit-pass l v x
     (⊎-elim (λ e. plain-pass l v x (λ f. omega (arith, e .0, f)) (e .1))
     (λ e.
-    sizes-pass l v x (e .0) (omega (arith, e .1 .further-fits)) (fits-well l (indexIn (x .metadata)) (length (x .metadata)) (e .1 .metadata-fits)))
+    sizes-pass l v x (e .0) (omega (arith, e .1 .further-fits)) (fits-well l (indexSizeIn (x .metadata)) (length (x .metadata)) (e .1 .metadata-fits)))
     w)
 
 pub well-version : (l : Layout) (v k : ℕ) (x : Sections) → WellSections l v k x → IsVersion v
@@ -160,18 +163,18 @@ well-version l v k x w = ⊎-elim (λ e. inl (e .0)) (λ e. inr (e .0)) w
 -- ---- checks 4 to 11 in turn, as the code makes them: n is the number of a check that is not passed
 
 module _ (l : Layout) (v : ℕ) (t : List ℕ) (x : Sections) where
-  pub sections-version : (n : ℕ) → n ≡ versionFault v → (n ≡ 0 → ⊥) → n ≡ sectionsChecks l v t x
-  unfolding sectionsChecks
+  pub sections-version : (n : ℕ) → n ≡ versionFault v → (n ≡ 0 → ⊥) → n ≡ givenSectionsFault l v t x
+  unfolding givenSectionsFault
   sections-version n e h = e ∙ sym (else-first (versionFault v) _ (λ z. h (e ∙ z)))
 
-  pub sections-unfit : versionFault v ≡ 0 → fitOk l v x ≡ false → 6 ≡ sectionsChecks l v t x
-  unfolding sectionsChecks
+  pub sections-unfit : versionFault v ≡ 0 → fitOk l v x ≡ false → 6 ≡ givenSectionsFault l v t x
+  unfolding givenSectionsFault
   sections-unfit e h =
       let k : fitFault l v x ≡ 6 = fit-refused l v x h in
       sym (else-second (versionFault v) _ e ∙ else-fault (fitFault l v x) _ 5 k)
 
-  pub sections-rest : versionFault v ≡ 0 → fitOk l v x ≡ true → sectionsFault t x ≡ sectionsChecks l v t x
-  unfolding sectionsChecks
+  pub sections-rest : versionFault v ≡ 0 → fitOk l v x ≡ true → sectionsFault t x ≡ givenSectionsFault l v t x
+  unfolding givenSectionsFault
   sections-rest e h = sym (else-second (versionFault v) _ e ∙ else-second (fitFault l v x) _ (fit-pass l v x h))
 
 -- ---- all checks but that of the room
@@ -184,23 +187,23 @@ pub length-given : (l : Layout) (p : Parts) → length (bodyGiven l p) ≡ longO
 length-given l p = length-body l (p .version) (indexOf p) (p .sections)
 
 module _ (l : Layout) (p : Parts) where
-  pub write-names : (n : ℕ) → n ≡ namesFault (p .typeText) (p .deviceName) → (n ≡ 0 → ⊥) → n ≡ writeChecks l p
-  unfolding writeChecks
+  pub write-names : (n : ℕ) → n ≡ namesFault (p .typeText) (p .deviceName) → (n ≡ 0 → ⊥) → n ≡ givenFault l p
+  unfolding givenFault
   write-names n e h = e ∙ sym (else-first (namesFault (p .typeText) (p .deviceName)) _ (λ z. h (e ∙ z)))
 
   -- what is left where the texts are right
   pub write-texts : namesFault (p .typeText) (p .deviceName) ≡ 0
-      → writeChecks l p ≡ orElse (limitFault (length (bodyGiven l p))) (sectionsChecks l (p .version) (p .typeText) (p .sections))
-  unfolding writeChecks
+      → givenFault l p ≡ orElse (limitFault (length (bodyGiven l p))) (givenSectionsFault l (p .version) (p .typeText) (p .sections))
+  unfolding givenFault
   write-texts e = else-second (namesFault (p .typeText) (p .deviceName)) _ e
 
-  pub write-limit : namesFault (p .typeText) (p .deviceName) ≡ 0 → limit < length (bodyGiven l p) → 3 ≡ writeChecks l p
+  pub write-limit : namesFault (p .typeText) (p .deviceName) ≡ 0 → limit < length (bodyGiven l p) → 3 ≡ givenFault l p
   write-limit e h =
       let k : limitFault (length (bodyGiven l p)) ≡ 3 = limit-refused (length (bodyGiven l p)) h in
       sym (write-texts e ∙ else-fault (limitFault (length (bodyGiven l p))) _ 2 k)
 
   pub write-rest : namesFault (p .typeText) (p .deviceName) ≡ 0 → length (bodyGiven l p) ≤ limit
-      → sectionsChecks l (p .version) (p .typeText) (p .sections) ≡ writeChecks l p
+      → givenSectionsFault l (p .version) (p .typeText) (p .sections) ≡ givenFault l p
   write-rest e h = sym (write-texts e ∙ else-second (limitFault (length (bodyGiven l p))) _ (limit-pass (length (bodyGiven l p)) h))
 
   -- the limit as the code tests it
@@ -218,8 +221,8 @@ pub record Writable (l : Layout) (p : Parts) : Type 0 where
   pub fit : fitOk l (p .version) (p .sections) ≡ true
   pub metadata : metadataFault (p .sections .metadata) ≡ 0
 
-pub writable : (l : Layout) (p : Parts) → writeChecks l p ≡ 0 → Writable l p
-unfolding writeChecks sectionsChecks sectionsFault
+pub writable : (l : Layout) (p : Parts) → givenFault l p ≡ 0 → Writable l p
+unfolding givenFault givenSectionsFault sectionsFault
 writable l p h =
     let a = zero-else (namesFault (p .typeText) (p .deviceName)) _ h in
     let b = zero-else (limitFault (length (bodyGiven l p))) _ (a .1) in
@@ -262,8 +265,8 @@ module _ (l : Layout) (k : ℕ) (p : Parts) where
 
   -- the reader's number for them: that of the limit, then those of the body
   pub parts-number : (rest : List ℕ) → HeaderFits (headerFor l k p)
-      → numberOf l (encodeWith l k p ++ rest) ≡ orElse (limitFault (length body)) (bodyChecks l (p .version) (crcOf body) (p .typeText) body)
-  parts-number rest f = ap (numberOf l) (parts-front rest) ∙ whole-number (headerFor l k p) body rest f refl l
+      → streamFault l (encodeWith l k p ++ rest) ≡ orElse (limitFault (length body)) (bodyFault l (p .version) (crcOf body) (p .typeText) body)
+  parts-number rest f = ap (streamFault l) (parts-front rest) ∙ whole-number (headerFor l k p) body rest f refl l
 
   -- what stands in them: the message itself
   pub parts-read : (rest : List ℕ) → HeaderFits (headerFor l k p) → WellSections l (p .version) k (p .sections) → partsAt l (encodeWith l k p ++ rest) ≡ p
@@ -286,7 +289,7 @@ module _ (l : Layout) (k : ℕ) (p : Parts) where
 
   -- where the sections can be written and k is the metadata's, those are the metadata's and the content's
   pub checks-sections : WellSections l (p .version) k (p .sections) → k ≡ indexOf p
-      → bodyChecks l (p .version) (crcOf body) (p .typeText) body ≡ sectionsFault (p .typeText) (p .sections)
+      → bodyFault l (p .version) (crcOf body) (p .typeText) body ≡ sectionsFault (p .typeText) (p .sections)
   unfolding foundFault
   checks-sections w e =
       let v : ℕ = p .version in
@@ -317,13 +320,6 @@ writable-cleaned l p w =
       fit = w .fit;
       metadata = w .metadata;
     }
-
--- ---- the header's writer
-
--- passes it too
-header-writes : (l : Layout) (p : Parts) → Writable l p → (room : ℕ) → 58 ≤ room → header.writeFault (headerFor l (indexOf p) p) room ≡ 0
-header-writes l p w room h =
-    write-room (headerFor l (indexOf p) p) room (w .names) (limit-pass (length (bodyGiven l p)) (w .short)) ∙ room-enough 58 room h
 
 -- ---- the buffer, once the body is stored from 58 on and then the header
 
@@ -366,43 +362,30 @@ module _ (l : Layout) (p : Parts) (out : List ℕ) (n k crc : ℕ) (y : List ℕ
   message-stored =
       ap (λ (h : Header). headerOut h after)
       (λ i. record { version = p .version; typeText = p .typeText; typeRest = p .typeRest; deviceName = p .deviceName; nameRest = p .nameRest; timeStamp = p .timeStamp; bodySize = e i; crc = crc-stored i })
-      ∙ out-header (headerFor l (indexOf p) p) after (header-writes l p w (length after) after-length)
+      ∙ out-header (headerFor l (indexOf p) p) after (given-passes (headerFor l (indexOf p) p) (w .names) (limit-pass (length (bodyGiven l p)) (w .short))) after-length
       ∙ ap (λ (r : List ℕ). encodeHeader (headerFor l (indexOf p) p) ++ r) after-rest
       ∙ sym (append-assoc (encodeHeader (headerFor l (indexOf p) p)) (bodyGiven l p) (drop (58 + n) out))
 
 -- ---- the answer and the buffer
 
 module _ (l : Layout) (p : Parts) (out : List ℕ) where
-  refuses : (n : ℕ) → n ≡ writeFault l p (length out) → (n ≡ 0 → ⊥) → (Refused n ≡ messageWritten l p (length out)) × (out ≡ messageOut l p out)
-  unfolding messageWritten messageOut
-  refuses n e h =
-      let k : writeFault l p (length out) ≡ 0 → ⊥ = λ z. h (e ∙ z) in
-      (ap Refused e ∙ sym (written-refused (writeFault l p (length out)) _ k), sym (out-refused (writeFault l p (length out)) _ out k))
+  abbrev Promise : Written → List ℕ → Type 0
+  Promise answer left = WriterPromise (givenFault l p) (messageBytes l p) out answer left
 
-  pub answers-checks : (n : ℕ) → n ≡ writeChecks l p → (n ≡ 0 → ⊥) → (Refused n ≡ messageWritten l p (length out)) × (out ≡ messageOut l p out)
-  unfolding writeFault
-  answers-checks n e h = refuses n (e ∙ sym (else-first (writeChecks l p) _ (λ z. h (e ∙ z)))) h
+  pub answers-checks : (n : ℕ) → n ≡ givenFault l p → (n ≡ 0 → ⊥) → Promise (Refused n) out
+  answers-checks n e h =
+      refuses (givenFault l p) (messageBytes l p) out n (e ∙ sym (else-first (givenFault l p) _ (λ z. h (e ∙ z)))) h
 
-  module _ (n : ℕ) (e : n ≡ length (bodyGiven l p)) (z : writeChecks l p ≡ 0) where
-    whole-length : 58 + n ≡ length (encodeParts l p)
-    whole-length = ap (λ (k : ℕ). 58 + k) e ∙ sym (length-parts l (indexOf p) p)
+  -- n is the length of the body, and k what the room's check gave
+  module _ (n k : ℕ) (e : n ≡ length (bodyGiven l p)) (z : givenFault l p ≡ 0) (r : k ≡ roomFault (58 + n) (length out)) where
+    whole-length : 58 + n ≡ length (encodeParts l (cleanParts p))
+    whole-length = ap (λ (j : ℕ). 58 + j) e ∙ sym (length-parts l (indexOf p) p) ∙ sym (length-cleaned l p)
 
-    pub answers-room : length out < 58 + n → (Refused 20 ≡ messageWritten l p (length out)) × (out ≡ messageOut l p out)
-    unfolding writeFault
-    answers-room h =
-        refuses 20
-        (sym (else-second (writeChecks l p) _ z ∙ room-short (length (encodeParts l p)) (length out) (omega (arith, whole-length))))
-        (λ k. omega (arith, k))
+    checked : k ≡ writerFault (givenFault l p) (messageBytes l p) (length out)
+    checked = r ∙ ap (λ (j : ℕ). roomFault j (length out)) whole-length ∙ sym (else-second (givenFault l p) _ z)
 
-    pub answers-written : 58 + n ≤ length out → (left : List ℕ) → left ≡ encodeParts l (cleanParts p) ++ drop (58 + n) out
-        → (Wrote (58 + n) ≡ messageWritten l p (length out)) × (left ≡ messageOut l p out)
-    unfolding messageWritten messageOut writeFault
-    answers-written h left k =
-        let q : Parts = cleanParts p in
-        let f : writeFault l p (length out) ≡ 0 =
-        else-zero (writeChecks l p) _ z (room-enough (length (encodeParts l p)) (length out) (omega (arith, whole-length))) in (
-          ap Wrote whole-length ∙ sym (written-wrote (writeFault l p (length out)) (length (encodeParts l p)) f),
-          k
-              ∙ ap (λ (j : ℕ). encodeParts l q ++ drop j out) (whole-length ∙ sym (length-cleaned l p))
-              ∙ sym (out-wrote (writeFault l p (length out)) (encodeParts l q) out f),
-        )
+    pub answers-room : (k ≡ 0 → ⊥) → Promise (Refused k) out
+    answers-room h = refuses (givenFault l p) (messageBytes l p) out k checked h
+
+    pub answers-written : k ≡ 0 → (left : List ℕ) → left ≡ encodeParts l (cleanParts p) ++ drop (58 + n) out → Promise (Wrote (58 + n)) left
+    answers-written h left f = writes (givenFault l p) (messageBytes l p) out left (58 + n) (sym checked ∙ h) whole-length f

@@ -12,12 +12,6 @@ use Rattle.content.specs.ContentCheck.{contentFault, contentClean, contentCheck
 use Rattle.message.proofs.contents_check.Statement.{statement}
 use Rattle.message.proofs.contents_check.Tie as tie
 
-metadata-fault-requires : tie.Need-metadata-fault-requires
-metadata-fault-requires c κs = search needs
-
-marked-requires : tie.Need-marked-requires
-marked-requires c κs = search needs
-
 returns : tie.Need-returns
 returns c =
     let a = c .before .before .before .before .before .before .args in
@@ -25,9 +19,6 @@ returns c =
     let x = contentFault deepest (a .type-text .now) (a .content .now) in
     let e = c .before .before .metadata-fault .ensures ∙ sym (else-first m x (λ z. c .before .if1 .taken (c .before .before .metadata-fault .ensures ∙ z))) in
     c .marked .ensures ∙ checked-same (c .before .before .metadata-fault .result) (orElse m x) false (contentClean deepest (a .type-text .now) (a .content .now)) e (c .before .if1 .taken)
-
-content-check-requires : tie.Need-content-check-requires
-content-check-requires c κs = search needs
 
 returns-2 : tie.Need-returns-2
 unfolding contentChecked
@@ -40,4 +31,4 @@ returns-2 c =
 
 pub contents-check-spec : {M : Type 1} → statement M
 contents-check-spec =
-    tie.close (tie.spec metadata-fault-requires marked-requires returns content-check-requires returns-2)
+    tie.close (tie.spec (λ c κs. search needs) (λ c κs. search needs) returns (λ c κs. search needs) returns-2)

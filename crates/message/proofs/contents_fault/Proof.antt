@@ -6,11 +6,8 @@ use Rattle.fields.proofs.Laws.Answer.{checked-number}
 use Rattle.message.proofs.contents_fault.Statement.{statement}
 use Rattle.message.proofs.contents_fault.Tie as tie
 
-contents-check-requires : tie.Need-contents-check-requires
-contents-check-requires c κs = search needs
-
 returns : tie.Need-returns
 returns c = ap (λ (x : Checked). x .number) (c .contents-check .ensures) ∙ checked-number _ _
 
 pub contents-fault-spec : {M : Type 1} → statement M
-contents-fault-spec = tie.close (tie.spec contents-check-requires returns)
+contents-fault-spec = tie.close (tie.spec (λ c κs. search needs) returns)

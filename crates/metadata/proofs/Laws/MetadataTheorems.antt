@@ -1,21 +1,21 @@
 -- Bytes are accepted exactly when some metadata is written as them, and only one is.
 use Prim.Native.Nat.{ℕ, _+_, _*_, _≤_}
-use mathlib.Core.Path.{_≡_, refl, sym, ap, _∙_, subst}
-use mathlib.Core.Logic.{_⊎_, inl, inr, ⊎-elim}
+use mathlib.Core.Path.{_≡_, refl, sym, ap, _∙_}
+use mathlib.Core.Logic.{_⊎_, inl, inr}
 use mathlib.Core.Bool.{Bool, true, cond}
 use mathlib.Core.List.{List, [], _∷_}
 use native.Mathlib.Omega.{arith}
-use lib.Dec.{eqb, leb}
 use lib.ListN.{length}
-use borrow.Author.Tests.{leb-true, ne-eqb}
+use borrow.Author.Tests.{ne-eqb}
 use Rattle.fields.specs.Bytes.{Bytes}
-use Rattle.fields.proofs.Laws.Checks.{cond-pass, cond-refused, and-split}
+use Rattle.fields.specs.Numbers.{beBytes}
+use Rattle.fields.proofs.Laws.Checks.{cond-pass, cond-refused}
+use Rattle.fields.proofs.Laws.Formats.{Decoded, two-way}
+use Rattle.fields.proofs.Laws.Tests.{by-zero}
 use Rattle.metadata.specs.Metadata.{Entry, Metadata, absent, section, encodeMetadata, indexSize, WellMetadata}
-use Rattle.metadata.specs.MetadataCheck.{indexCount, indexIn, headersOf, dataOf, sectionOk, metadataFault}
-use Rattle.metadata.specs.MetadataTheorems.{IsMetadata, MetadataTheorems}
-use Rattle.metadata.proofs.Laws.Entries.{entriesFrom}
-use Rattle.metadata.proofs.Laws.Written.{length-written, count-written, section-written, entries-back}
-use Rattle.metadata.proofs.Laws.Read.{section-read, section-well}
+use Rattle.metadata.specs.MetadataCheck.{indexCount, indexSizeIn, sectionOk, metadataFault}
+use Rattle.metadata.specs.MetadataTheorems.{MetadataTheorems}
+use Rattle.metadata.proofs.Laws.Sections.{entriesIn, section-passed, section-read, length-written, count-written, section-written}
 
 metadata-absent : metadataFault [] ≡ 0
 unfolding metadataFault
@@ -27,77 +27,65 @@ module _ (s : List ℕ) (n : length s ≡ 0 → ⊥) where
   unfolding metadataFault
   section-fault = simp (ne-eqb (length s) 0 n)
 
-nil-or-some : (s : List ℕ) → (s ≡ []) ⊎ (length s ≡ 0 → ⊥)
-nil-or-some [] = inl refl
-nil-or-some (x ∷ s) = inr (λ e. omega (arith, e))
+  section-accepted : metadataFault s ≡ 0 → sectionOk s ≡ true
+  section-accepted h = cond-pass (sectionOk s) _ 0 (sym section-fault ∙ h) .0
 
 written-some : (es : List Entry) → length (encodeMetadata (section es)) ≡ 0 → ⊥
 written-some es e = omega (arith, e, length-written es)
 
-metadata-well : (m : Metadata) → WellMetadata m → metadataFault (encodeMetadata m) ≡ 0
-unfolding WellMetadata encodeMetadata
-metadata-well absent w = metadata-absent
-metadata-well (section es) w =
-    section-fault (encodeMetadata (section es)) (written-some es) ∙ ap (λ (t : Bool). cond t 0 7) (section-written es (w .0) (w .1))
-
-absent-is : (s : List ℕ) → s ≡ [] → IsMetadata s
-unfolding WellMetadata encodeMetadata
-absent-is s e = record { metadata = absent; well = tt; bytes = sym e }
-
-section-is : (s : List ℕ) → Bytes s → sectionOk s ≡ true → IsMetadata s
-unfolding WellMetadata
-section-is s b k =
-    record { metadata = section (entriesFrom (indexCount s) (headersOf s) (dataOf s)); well = section-well s k b; bytes = section-read s k b }
-
-metadata-accepted : (s : List ℕ) → Bytes s → metadataFault s ≡ 0 → IsMetadata s
-metadata-accepted s b h =
-    ⊎-elim (absent-is s) (λ n. section-is s b (cond-pass (sectionOk s) _ 0 (sym (section-fault s n) ∙ h) .0)) (nil-or-some s)
-
-metadata-refused : (s : List ℕ) → Bytes s → (IsMetadata s → ⊥) → metadataFault s ≡ 7
-metadata-refused s b h =
-    ⊎-elim (λ e. absurd (h (absent-is s e)))
-    (λ n. section-fault s n ∙ cond-refused (sectionOk s) 7 (λ z. h (metadata-accepted s b (section-fault s n ∙ z))))
-    (nil-or-some s)
-
 -- the metadata that bytes hold
-abbrev metadataOf : List ℕ → Metadata
-metadataOf s = cond (eqb (length s) 0) absent (section (entriesFrom (indexCount s) (headersOf s) (dataOf s)))
+metadataOf : List ℕ → Metadata
+metadataOf [] = absent
+metadataOf (x ∷ s) = section (entriesIn (x ∷ s))
 
--- what is written is read back
-metadata-back : (m : Metadata) → WellMetadata m → metadataOf (encodeMetadata m) ≡ m
-unfolding WellMetadata encodeMetadata
-metadata-back absent w = refl
-metadata-back (section es) w =
-    simp (ne-eqb (length (encodeMetadata (section es))) 0 (written-some es)) (ap section (entries-back es (w .0) (w .1)))
+metadata-decoded : Decoded WellMetadata encodeMetadata metadataFault (λ n. n ≡ 7) metadataOf
+unfolding WellMetadata encodeMetadata beBytes metadataOf
+metadata-decoded = record { well = well; back = back; accepts = accepts; decoded = decoded; numbers = numbers }
+  where
+    well : (s : List ℕ) → Bytes s → metadataFault s ≡ 0 → WellMetadata (metadataOf s)
+    well [] b h = tt
+    well (x ∷ s) b h = section-read (x ∷ s) (section-accepted (x ∷ s) (λ e. omega (arith, e)) h) b .0
 
-metadata-unique : (m n : Metadata) → WellMetadata m → WellMetadata n → encodeMetadata m ≡ encodeMetadata n → m ≡ n
-metadata-unique m n v w e = sym (metadata-back m v) ∙ ap metadataOf e ∙ metadata-back n w
+    back : (s : List ℕ) → Bytes s → metadataFault s ≡ 0 → encodeMetadata (metadataOf s) ≡ s
+    back [] b h = refl
+    back (x ∷ s) b h = section-read (x ∷ s) (section-accepted (x ∷ s) (λ e. omega (arith, e)) h) b .1
+
+    accepts : (m : Metadata) → WellMetadata m → metadataFault (encodeMetadata m) ≡ 0
+    accepts absent w = metadata-absent
+    accepts (section es) w =
+        section-fault (encodeMetadata (section es)) (written-some es) ∙ ap (λ (t : Bool). cond t 0 7) (section-written es (w .0) (w .1) .0)
+
+    decoded : (m : Metadata) → WellMetadata m → metadataOf (encodeMetadata m) ≡ m
+    decoded absent w = refl
+    decoded (section es) w = ap section (section-written es (w .0) (w .1) .1)
+
+    numbers : (s : List ℕ) → (metadataFault s ≡ 0) ⊎ (metadataFault s ≡ 7)
+    numbers [] = inl metadata-absent
+    numbers (x ∷ s) =
+        let f = section-fault (x ∷ s) (λ e. omega (arith, e)) in
+        by-zero (metadataFault (x ∷ s)) inl (λ z. inr (f ∙ cond-refused (sectionOk (x ∷ s)) 7 (λ e. z (f ∙ e))))
 
 -- ---- the index
 
-index-in : (m : Metadata) → WellMetadata m → indexIn (encodeMetadata m) ≡ indexSize m
-unfolding WellMetadata encodeMetadata indexIn
+index-in : (m : Metadata) → WellMetadata m → indexSizeIn (encodeMetadata m) ≡ indexSize m
+unfolding WellMetadata encodeMetadata indexSizeIn
 index-in absent w = refl
 index-in (section es) w =
     simp (ne-eqb (length (encodeMetadata (section es))) 0 (written-some es)) (ap (λ (n : ℕ). 2 + 8 * n) (count-written es (w .0)))
 
-index-within : (s : List ℕ) → metadataFault s ≡ 0 → indexIn s ≤ length s
-unfolding indexIn sectionOk
-index-within s h =
-    ⊎-elim (λ e. subst (λ (t : List ℕ). indexIn t ≤ length t) (sym e) (omega arith))
-    (λ n.
-    let a = and-split (leb 2 (length s)) _ (cond-pass (sectionOk s) _ 0 (sym (section-fault s n) ∙ h) .0) in
-    let e : indexIn s ≡ 2 + 8 * indexCount s = simp (ne-eqb (length s) 0 n) in
-    omega (arith, e, leb-true (2 + 8 * indexCount s) (length s) (and-split (leb (2 + 8 * indexCount s) (length s)) _ (a .1) .0)))
-    (nil-or-some s)
+index-within : (s : List ℕ) → metadataFault s ≡ 0 → indexSizeIn s ≤ length s
+unfolding indexSizeIn
+index-within [] h = omega arith
+index-within (x ∷ r) h =
+    let s = x ∷ r in
+    let n : length s ≡ 0 → ⊥ = λ e. omega (arith, e) in
+    let e : indexSizeIn s ≡ 2 + 8 * indexCount s = simp (ne-eqb (length s) 0 n) in
+    omega (arith, e, section-passed s (section-accepted s n h) .0)
 
 pub metadata-theorems : MetadataTheorems
 metadata-theorems =
     record {
-      accepted = metadata-accepted;
-      refused = metadata-refused;
-      well-accepted = metadata-well;
-      unique = metadata-unique;
+      two-way = two-way WellMetadata encodeMetadata metadataFault (λ n. n ≡ 7) metadataOf metadata-decoded;
       index-in = index-in;
       index-within = index-within;
     }

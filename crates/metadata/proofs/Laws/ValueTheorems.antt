@@ -1,6 +1,7 @@
 -- Look-ups in an accepted section give its entries: those of the metadata that is written as it.
 use Prim.Native.Nat.{ℕ, suc, _+_, _-_, _*_, _^_, _<_}
 use mathlib.Core.Path.{_≡_, refl, sym, ap, ap₂, subst, _∙_}
+use mathlib.Core.Logic.{_⊎_, inl, inr, ⊎-elim}
 use mathlib.Core.List.{List, [], _∷_, _++_, append-nil}
 use native.Mathlib.Omega.{arith}
 use lib.ListN.{length, take, drop, length-append}
@@ -10,18 +11,17 @@ use Rattle.fields.specs.Bytes.{part, same}
 use Rattle.fields.specs.Lists.{Each, flat}
 use Rattle.fields.specs.Numbers.{beVal}
 use Rattle.fields.proofs.Laws.Bytes.{same-refl, not-same}
-use Rattle.fields.proofs.Laws.Lists.{flat-cons, flat-append, each-middle}
+use Rattle.fields.proofs.Laws.Lists.{flat-cons, flat-append, each-middle, first-or-none}
 use Rattle.fields.proofs.Laws.Tests.{by-zero}
 use Rattle.metadata.specs.declared.ValuePlace.{ValuePlace}
 use Rattle.metadata.specs.Metadata.{Entry, Metadata, absent, section, entryHeader, entryData, encodeMetadata, WellEntry, WellMetadata}
 use Rattle.metadata.specs.MetadataCheck.{indexCount, headersOf, dataOf, metadataFault}
 use Rattle.metadata.specs.ValueLookup.{refused, placeIn, searched, valuePlace, valueOf}
 use Rattle.metadata.specs.ValueTheorems.{entriesOf, HasEntries, NoneKeyed, FirstKeyed, placeAmong, ValueTheorems}
-use Rattle.metadata.proofs.Laws.Entries.{length-entryData, header-rest, header-key, header-encoding, header-value, data-past-key}
-use Rattle.metadata.proofs.Laws.Written.{data-first, key-written, rest-written, length-written, count-written, headers-written, data-written}
+use Rattle.metadata.proofs.Laws.Entries.{length-entryData, header-rest, header-key, header-encoding, header-value, data-past-key, key-written, rest-written}
+use Rattle.metadata.proofs.Laws.Sections.{length-written, count-written, headers-written, data-written}
 use Rattle.metadata.proofs.Laws.MetadataTheorems.{metadata-theorems}
 use Rattle.metadata.proofs.Laws.Search.{search-end, search-found, search-next, search-refused}
-use Rattle.metadata.proofs.Laws.Cases.{found-or-none}
 
 -- ---- the answers, by cases
 
@@ -58,7 +58,8 @@ module _ (n : ℕ) (x : List ℕ) (r : List ℕ) where
     headers = flat entryHeader es ++ r
 
     among-front : among (e ∷ es) ≡ placeIn n (suc (length es)) (entryHeader e ++ headers) (entryData e ++ flat entryData es) x
-    among-front = ap₂ (λ (h d : List ℕ). placeIn n (suc (length es)) h d x) (flat-cons entryHeader e es r) (data-first e es)
+    unfolding flat
+    among-front = ap (λ (h : List ℕ). placeIn n (suc (length es)) h (entryData e ++ flat entryData es) x) (flat-cons entryHeader e es r)
 
     among-found : e .key ≡ x
         → among (e ∷ es) ≡ record { number = 0; encoding = e .encoding; at = n - length (e .value ++ flat entryData es); len = length (e .value) }
@@ -98,7 +99,7 @@ module _ (x : List ℕ) (es : List Entry) (fits : length es < 256 ^ 2) (w : Each
 
   accepted : metadataFault written ≡ 0
   unfolding WellMetadata
-  accepted = metadata-theorems .well-accepted (section es) (fits, w)
+  accepted = metadata-theorems .two-way .well-accepted (section es) (fits, w)
 
   place-written : valuePlace written x ≡ among (length written) x (flat entryData es) es
   place-written =
@@ -114,10 +115,8 @@ module _ (x : List ℕ) (es : List Entry) (fits : length es < 256 ^ 2) (w : Each
     each = subst (Each WellEntry) (sym (f .list)) w
 
     data-split : flat entryData es ≡ flat entryData (f .before) ++ (entryData e ++ flat entryData after)
-    data-split =
-        ap (flat entryData) (sym (f .list))
-        ∙ flat-append entryData (f .before) (e ∷ after)
-        ∙ ap (λ (l : List ℕ). flat entryData (f .before) ++ l) (data-first e after)
+    unfolding flat
+    data-split = ap (flat entryData) (sym (f .list)) ∙ flat-append entryData (f .before) (e ∷ after)
 
     at-written : length written - length (e .value ++ flat entryData after) ≡ 2 + 8 * length es + length (flat entryData (f .before)) + length (e .key)
     at-written =
@@ -165,7 +164,7 @@ module _ (x : List ℕ) (es : List Entry) (fits : length es < 256 ^ 2) (w : Each
 no-entries : (x : List ℕ) → valuePlace [] x ≡ refused 19
 unfolding encodeMetadata WellMetadata beVal
 no-entries x =
-    place-accepted [] x (metadata-theorems .well-accepted absent tt) ∙ search-end 0 [] [] x
+    place-accepted [] x (metadata-theorems .two-way .well-accepted absent tt) ∙ search-end 0 [] [] x
 
 missing-of : (x : List ℕ) (m : Metadata) → WellMetadata m → NoneKeyed x (entriesOf m) → valuePlace (encodeMetadata m) x ≡ refused 19
 unfolding encodeMetadata WellMetadata
@@ -197,11 +196,19 @@ module _ (s : List ℕ) (es : List Entry) (x : List ℕ) (h : HasEntries s es) w
       ap (λ (l : List ℕ). valuePlace l x) (sym (h .bytes))
       ∙ missing-of x (h .metadata) (h .well) (subst (NoneKeyed x) (sym (h .entries)) k)
 
+-- a key is that of a first entry or of none
+found-or-none : (k : List ℕ) (es : List Entry) → ((e : Entry) × FirstKeyed k e es) ⊎ NoneKeyed k es
+found-or-none k es =
+    ⊎-elim
+    (λ r. inl (r .1, record { before = r .0; after = r .2; list = r .3; keyed = r .4; first = r .5 }))
+    inr
+    (first-or-none (λ e. e .key) k es)
+
 pub value-theorems : ValueTheorems
 value-theorems =
     record {
-      some = λ s b a. let m = metadata-theorems .accepted s b a in
-          (entriesOf (m .metadata), record { metadata = m .metadata; well = m .well; bytes = m .bytes; entries = refl });
+      some = λ s b a. let m = metadata-theorems .two-way .accepted s b a in
+          (entriesOf (m .0), record { metadata = m .0; well = m .1; bytes = m .2; entries = refl });
       place = λ s es x e h f. found-place s es x h e f;
       value = λ s es x e h f. found-value s es x h e f;
       missing = missing;

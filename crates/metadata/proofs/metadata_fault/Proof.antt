@@ -10,9 +10,6 @@ returns : tie.Need-returns
 unfolding metadataFault
 returns c = sym (simp (eq-eqb _ 0 (c .if1 .taken)))
 
-section-ok-requires : tie.Need-section-ok-requires
-section-ok-requires c κs = search needs
-
 returns-2 : tie.Need-returns-2
 unfolding metadataFault
 returns-2 c = sym (simp (ne-eqb _ 0 (c .before .before .if1 .left), sym (c .before .section-ok .ensures) ∙ c .if2 .taken))
@@ -22,4 +19,4 @@ unfolding metadataFault
 returns-3 c = sym (simp (ne-eqb _ 0 (c .before .before .if1 .left), sym (c .before .section-ok .ensures) ∙ c .if2 .left))
 
 pub metadata-fault-spec : {M : Type 1} → statement M
-metadata-fault-spec = tie.close (tie.spec returns section-ok-requires returns-2 returns-3)
+metadata-fault-spec = tie.close (tie.spec returns (λ c κs. search needs) returns-2 returns-3)

@@ -5,11 +5,8 @@ use borrow.Author.Needs.{needs}
 use Rattle.metadata.proofs.value_fault.Statement.{statement}
 use Rattle.metadata.proofs.value_fault.Tie as tie
 
-value-place-requires : tie.Need-value-place-requires
-value-place-requires c κs = search needs
-
 returns : tie.Need-returns
 returns c = ap (λ (p : ValuePlace). p .number) (c .value-place .ensures)
 
 pub value-fault-spec : {M : Type 1} → statement M
-value-fault-spec = tie.close (tie.spec value-place-requires returns)
+value-fault-spec = tie.close (tie.spec (λ c κs. search needs) returns)

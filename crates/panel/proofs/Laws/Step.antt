@@ -28,7 +28,7 @@ use Rattle.history.specs.Calls as history
 use Rattle.history.specs.Places.{passes, isThere, firstFree}
 use Rattle.history.specs.Reading.{Reading, Reads, oneMessage, Reader}
 use Rattle.history.specs.Reading as reading
-use Rattle.history.specs.Summary.{tileAt, isOf, carries, isAllowed, allowedFault, clockFault, tileFault, readingNumber, readOn, numberOn}
+use Rattle.history.specs.Summary.{tileAt, isOf, carries, isAllowed, allowedFault, clockFault, tileFault, readingFault, readOn, faultOn}
 use Rattle.history.proofs.Laws.Places.{filled-at, changed-at}
 use Rattle.history.proofs.Laws.ReaderTheorems.{begins-one, none-number}
 use Rattle.room.proofs.Laws.Room.{Received, RoomTile, Room, roomAt, entryOf, bookOf, countedBy, shownBy, changed, answered, roomNext, roomAnswer}
@@ -131,9 +131,9 @@ module _ (now : ℕ) where
 module _ (R : Reader) (p : Panel) (m : Room) (T : Agrees p m) where
   -- the panel's row of a call is what the room does
   record CallAgrees (c : Call) : Type 0 where
-    fault : row p c .fault ≡ numberOn R (bookOf m) c
-    panel : numberOn R (bookOf m) c ≡ 0 → Agrees (row p c .panel) (changed R m (noteOf c))
-    answer : numberOn R (bookOf m) c ≡ 0 → row p c .answer ≡ answered R m c
+    fault : row p c .fault ≡ faultOn R (bookOf m) c
+    panel : faultOn R (bookOf m) c ≡ 0 → Agrees (row p c .panel) (changed R m (noteOf c))
+    answer : faultOn R (bookOf m) c ≡ 0 → row p c .answer ≡ answered R m c
 
   -- what stands at a place once x is put at place k
   put-at : (x : Tile) (k : ℕ) → k < 16 → (i : ℕ) → getD (set (p .tiles) k x) i noTile ≡ cond (eqb i k) x (getD (p .tiles) i noTile)
@@ -174,13 +174,13 @@ module _ (R : Reader) (p : Panel) (m : Room) (T : Agrees p m) where
         chosen true = record { entry = record { used = refl; label = refl; hold = refl; allowed = a }; last = refl; since = refl }
         chosen false = T .places i
 
-    add-agrees : numberOn R (bookOf m) (add t n h) ≡ 0 → Agrees (entered p tile) (changed R m (adding entry))
+    add-agrees : faultOn R (bookOf m) (add t n h) ≡ 0 → Agrees (entered p tile) (changed R m (adding entry))
     add-agrees z =
         let y = zero-else (allowedFault t n h) _ z in
         let a : isAllowed t n h ≡ true = allowed-passed t n h (y .0) in
         record { link = T .link; size = length-set (p .tiles) place tile ∙ T .size; places = tile-agrees (not-full z) a }
       where
-        not-full : numberOn R (bookOf m) (add t n h) ≡ 0 → place < 16
+        not-full : faultOn R (bookOf m) (add t n h) ≡ 0 → place < 16
         not-full z =
             let y = zero-else (allowedFault t n h) _ z in
             let w = zero-else (cond (anyOf (passes (isOf t n)) (bookOf m .tiles)) 17 0) _ (y .1) in
@@ -196,26 +196,26 @@ module _ (R : Reader) (p : Panel) (m : Room) (T : Agrees p m) where
       }
 
   -- what counts is one message
-  one-of : (l : Layout) (s : List ℕ) (ts : List (Option Entry)) (r : Reading) → Bytes s → Reads l s r → readingNumber ts r ≡ 0
+  one-of : (l : Layout) (s : List ℕ) (ts : List (Option Entry)) (r : Reading) → Bytes s → Reads l s r → readingFault ts r ≡ 0
       → (n : Message) × WellFormed l n × (encode l n ≡ s) × (r ≡ oneMessage n)
   one-of l s ts r bs (reading.none n) z = absurd (none-number l s bs n (read-number l s ∙ z))
   one-of l s ts r bs (reading.more n g h) z = absurd (let y : _≡_ {A = ℕ} 12 0 = z in omega arith)
   one-of l s ts r bs (reading.one n w e) z = (n, w, e, refl)
 
   -- on the panel's link
-  one-on : (s : List ℕ) → Bytes s → (up : Bool) → readingNumber (bookOf m .tiles) (readOn R (cond up (some (p .link .layout)) none) s) ≡ 0
+  one-on : (s : List ℕ) → Bytes s → (up : Bool) → readingFault (bookOf m .tiles) (readOn R (cond up (some (p .link .layout)) none) s) ≡ 0
       → (n : Message) × WellFormed (p .link .layout) n × (encode (p .link .layout) n ≡ s)
       × (readOn R (cond up (some (p .link .layout)) none) s ≡ oneMessage n)
   one-on s bs true z = one-of (p .link .layout) s (bookOf m .tiles) (R .read (p .link .layout) s) bs (R .reads (p .link .layout) s bs) z
   one-on s bs false z = absurd (let y : _≡_ {A = ℕ} 14 0 = z in omega arith)
 
-  message-agrees : (t : ℕ) (s : List ℕ) → Bytes s → numberOn R (bookOf m) (message t s) ≡ 0
+  message-agrees : (t : ℕ) (s : List ℕ) → Bytes s → faultOn R (bookOf m) (message t s) ≡ 0
       → Agrees (received p t s (panel.readOn (p .link) s)) (changed R m (history.receiving t s))
   message-agrees t s bs z =
       let a = panel.readOn (p .link) s in
       let e = ap (λ (k : history.Link). readOn R (k .up) s) (T .link) in
       let y = zero-else (clockFault (m .link .clock) t) _ z in
-      let n = one-on s bs (p .link .up) (ap (readingNumber (bookOf m .tiles)) e ∙ y .1) in
+      let n = one-on s bs (p .link .up) (ap (readingFault (bookOf m .tiles)) e ∙ y .1) in
       record {
         link = ap (history.atClock t) (T .link);
         size = length-map (p .tiles) (countedFor (labelIn s a) t (valueIn s a)) ∙ T .size;
@@ -228,7 +228,7 @@ module _ (R : Reader) (p : Panel) (m : Room) (T : Agrees p m) where
             (p .tiles) (m .tiles) (T .places);
       }
 
-  look-answered : (i now : ℕ) → numberOn R (bookOf m) (look i now) ≡ 0 → row p (look i now) .answer ≡ shownBy (roomAt m i) now
+  look-answered : (i now : ℕ) → faultOn R (bookOf m) (look i now) ≡ 0 → row p (look i now) .answer ≡ shownBy (roomAt m i) now
   look-answered i now z =
       let y = zero-else (tileFault (tileAt (bookOf m) i)) (clockFault (m .link .clock) now) z in
       look-agrees now p _ (roomAt m i)
@@ -250,7 +250,7 @@ module _ (R : Reader) (p : Panel) (m : Room) (T : Agrees p m) where
 
     pub step : Agrees (panelNext p c) (roomNext R m c)
     step =
-        by-zero (numberOn R (bookOf m) c)
+        by-zero (faultOn R (bookOf m) c)
         (λ z.
         subst (λ (q : Panel). Agrees q (roomNext R m c)) (sym (panel-changed p c (agreed .fault ∙ z)))
         (subst (Agrees (row p c .panel)) (sym (room-accepted R m c z)) (agreed .panel z)))
@@ -260,9 +260,9 @@ module _ (R : Reader) (p : Panel) (m : Room) (T : Agrees p m) where
 
     pub same-answer : answerTo p c ≡ roomAnswer R m c
     same-answer =
-        let chosen : Bool → Answer = λ t. cond t (answered R m c) (refused (numberOn R (bookOf m) c)) in
-        by-zero (numberOn R (bookOf m) c)
-        (λ z. answer-accepted p c (agreed .fault ∙ z) ∙ agreed .answer z ∙ sym (ap chosen (eq-eqb (numberOn R (bookOf m) c) 0 z)))
+        let chosen : Bool → Answer = λ t. cond t (answered R m c) (refused (faultOn R (bookOf m) c)) in
+        by-zero (faultOn R (bookOf m) c)
+        (λ z. answer-accepted p c (agreed .fault ∙ z) ∙ agreed .answer z ∙ sym (ap chosen (eq-eqb (faultOn R (bookOf m) c) 0 z)))
         (λ z.
         answer-refused p c (λ y. z (sym (agreed .fault) ∙ y)) ∙ ap refused (agreed .fault)
-        ∙ sym (ap chosen (ne-eqb (numberOn R (bookOf m) c) 0 z)))
+        ∙ sym (ap chosen (ne-eqb (faultOn R (bookOf m) c) 0 z)))

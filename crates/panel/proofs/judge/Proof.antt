@@ -6,28 +6,16 @@ use Rattle.panel.proofs.Laws.Calls.{judged-late, judged-down, judged-re
 use Rattle.panel.proofs.judge.Statement.{statement}
 use Rattle.panel.proofs.judge.Tie as tie
 
-unread-requires : tie.Need-unread-requires
-unread-requires c κs = search needs
-
 returns : tie.Need-returns
 returns c =
     let a = c .before .before .before .before .args in
     c .unread .ensures ∙ judged-late (a .link) (a .clock) (a .bytes .now) (c .before .if1 .taken)
-
-unread-requires-2 : tie.Need-unread-requires-2
-unread-requires-2 c κs = search needs
 
 returns-2 : tie.Need-returns-2
 returns-2 c =
     let a = c .before .before .before .before .before .before .args in
     c .unread2 .ensures
     ∙ judged-down (a .link) (a .clock) (a .bytes .now) (c .before .before .before .if1 .left) (not-true (a .link .up) (c .before .if2 .taken))
-
-read-requires : tie.Need-read-requires
-read-requires c κs = search needs
-
-bytes-fault-requires : tie.Need-bytes-fault-requires
-bytes-fault-requires c κs = search needs
 
 returns-3 : tie.Need-returns-3
 returns-3 c =
@@ -40,10 +28,10 @@ pub judge-spec : {M : Type 1} → statement M
 judge-spec =
     tie.close
     (tie.spec
-    unread-requires
+    (λ c κs. search needs)
     returns
-    unread-requires-2
+    (λ c κs. search needs)
     returns-2
-    read-requires
-    bytes-fault-requires
+    (λ c κs. search needs)
+    (λ c κs. search needs)
     returns-3)

@@ -1,22 +1,26 @@
 -- `pose::position_fault` meets its contract: the law of each of the test's two cases.
+use Prim.Native.Nat.{_/_, _%_}
 use mathlib.Core.Path.{sym, _∙_}
+use lib.Dec.{eqb}
 use lib.ListN.{length}
 use borrow.Author.Needs.{needs}
 use borrow.Author.Tests.{eq-eqb, ne-eqb}
-use Rattle.pose.specs.Position.{wordsIn, positionFault}
+use Rattle.fields.proofs.Laws.Tests.{cond-yes, cond-no}
+use Rattle.pose.specs.Position.{countFault, positionFault}
 use Rattle.pose.proofs.position_fault.Statement.{statement}
 use Rattle.pose.proofs.position_fault.Tie as tie
 
-words-in-requires : tie.Need-words-in-requires
-words-in-requires c κs = search needs
-
 returns : tie.Need-returns
 unfolding positionFault
-returns c = sym (simp (eq-eqb (wordsIn (length (c .before .before .before .args .content .now))) 0 (sym (c .before .words-in .ensures) ∙ c .if1 .taken)))
+returns c =
+    let n = length (c .before .before .args .content .now) in
+    sym (cond-no (eqb (n % 4) 0) (countFault (n / 4)) _ (ne-eqb (n % 4) 0 (c .if1 .taken)))
 
 returns-2 : tie.Need-returns-2
 unfolding positionFault
-returns-2 c = sym (simp (ne-eqb (wordsIn (length (c .before .before .before .args .content .now))) 0 (λ e. c .if1 .left (c .before .words-in .ensures ∙ e))))
+returns-2 c =
+    let n = length (c .before .before .before .args .content .now) in
+    c .count-fault .ensures ∙ sym (cond-yes (eqb (n % 4) 0) (countFault (n / 4)) _ (eq-eqb (n % 4) 0 (c .before .if1 .left)))
 
 pub position-fault-spec : {M : Type 1} → statement M
-position-fault-spec = tie.close (tie.spec words-in-requires returns returns-2)
+position-fault-spec = tie.close (tie.spec returns (λ c κs. search needs) returns-2)

@@ -1,11 +1,11 @@
 -- `pose::read_position` meets its contract: the law of an accepted content and that of a refused one.
-use Prim.Native.Nat.{ℕ}
+use Prim.Native.Nat.{ℕ, _/_}
 use mathlib.Core.Path.{_≡_, sym, ap, _∙_}
 use mathlib.Core.List.{[], _∷_}
 use lib.ListN.{length, replicate}
 use borrow.Author.Needs.{needs}
 use Rattle.pose.specs.declared.PositionRead.{PositionRead}
-use Rattle.pose.specs.Position.{wordsIn, positionAt}
+use Rattle.pose.specs.Position.{positionAt}
 use Rattle.pose.proofs.Laws.{position-read, position-refused}
 use Rattle.pose.proofs.read_position.Statement.{statement}
 use Rattle.pose.proofs.read_position.Tie as tie
@@ -40,28 +40,25 @@ be32-requires-6 c κs = search needs
 be32-requires-7 : tie.Need-be32-requires-7
 be32-requires-7 c κs = search needs
 
-words-in-requires : tie.Need-words-in-requires
-words-in-requires c κs = search needs
-
 returns-2 : tie.Need-returns-2
 returns-2 c =
-    let s = c .before .before .before .before .before .before .before .before .before .before .before .args .content .now in
-    let n = c .before .before .before .before .before .before .before .before .before .position-fault .ensures in
-    let e : _≡_ {A = PositionRead} _ (record { number = 0; count = wordsIn (length s); words = positionAt s }) =
+    let s = c .before .before .before .before .before .before .before .before .before .before .args .content .now in
+    let n = c .before .before .before .before .before .before .before .before .position-fault .ensures in
+    let e : _≡_ {A = PositionRead} _ (record { number = 0; count = length s / 4; words = positionAt s }) =
     λ i. record {
       number = 0;
-      count = c .words-in .ensures i;
+      count = length s / 4;
       words =
-          c .before .before .before .before .before .before .before .be32 .ensures i
-          ∷ c .before .before .before .before .before .before .be322 .ensures i
-          ∷ c .before .before .before .before .before .be323 .ensures i
-          ∷ c .before .before .before .before .be324 .ensures i
-          ∷ c .before .before .before .be325 .ensures i
-          ∷ c .before .before .be326 .ensures i
-          ∷ c .before .be327 .ensures i
+          c .before .before .before .before .before .before .be32 .ensures i
+          ∷ c .before .before .before .before .before .be322 .ensures i
+          ∷ c .before .before .before .before .be323 .ensures i
+          ∷ c .before .before .before .be324 .ensures i
+          ∷ c .before .before .be325 .ensures i
+          ∷ c .before .be326 .ensures i
+          ∷ c .be327 .ensures i
           ∷ [];
     } in
-    e ∙ sym (position-read s (sym n ∙ c .before .before .before .before .before .before .before .before .if1 .left))
+    e ∙ sym (position-read s (sym n ∙ c .before .before .before .before .before .before .before .if1 .left))
 
 pub read-position-spec : {M : Type 1} → statement M
 read-position-spec =
@@ -76,5 +73,4 @@ read-position-spec =
     be32-requires-5
     be32-requires-6
     be32-requires-7
-    words-in-requires
     returns-2)

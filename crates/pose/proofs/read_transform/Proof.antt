@@ -17,17 +17,17 @@ returns c =
     let e = c .before .transform-fault .ensures in
     ap (λ (n : ℕ). record { number = n; transform = noTransform }) e ∙ sym (transform-refused s (λ z. c .if1 .taken (e ∙ z)))
 
-three-requires : tie.Need-three-requires
-three-requires c κs = search needs
+words3-requires : tie.Need-words3-requires
+words3-requires c κs = search needs
 
-three-requires-2 : tie.Need-three-requires-2
-three-requires-2 c κs = search needs
+words3-requires-2 : tie.Need-words3-requires-2
+words3-requires-2 c κs = search needs
 
-three-requires-3 : tie.Need-three-requires-3
-three-requires-3 c κs = search needs
+words3-requires-3 : tie.Need-words3-requires-3
+words3-requires-3 c κs = search needs
 
-three-requires-4 : tie.Need-three-requires-4
-three-requires-4 c κs = search needs
+words3-requires-4 : tie.Need-words3-requires-4
+words3-requires-4 c κs = search needs
 
 returns-2 : tie.Need-returns-2
 returns-2 c =
@@ -37,10 +37,10 @@ returns-2 c =
     λ i. record {
       number = 0;
       transform = record {
-        column1 = c .before .before .before .three .ensures i;
-        column2 = c .before .before .three2 .ensures i;
-        column3 = c .before .three3 .ensures i;
-        translation = c .three4 .ensures i;
+        column1 = c .before .before .before .words3 .ensures i;
+        column2 = c .before .before .words32 .ensures i;
+        column3 = c .before .words33 .ensures i;
+        translation = c .words34 .ensures i;
       };
     } in
     e ∙ sym (transform-read s (sym n ∙ c .before .before .before .before .if1 .left))
@@ -51,8 +51,8 @@ read-transform-spec =
     (tie.spec
     transform-fault-requires
     returns
-    three-requires
-    three-requires-2
-    three-requires-3
-    three-requires-4
+    words3-requires
+    words3-requires-2
+    words3-requires-3
+    words3-requires-4
     returns-2)

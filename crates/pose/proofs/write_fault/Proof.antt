@@ -10,9 +10,6 @@ use Rattle.pose.proofs.Laws.{count-few}
 use Rattle.pose.proofs.write_fault.Statement.{statement}
 use Rattle.pose.proofs.write_fault.Tie as tie
 
-count-fault-requires : tie.Need-count-fault-requires
-count-fault-requires c κs = search needs
-
 returns : tie.Need-returns
 returns c =
     let a = c .before .before .args in
@@ -24,9 +21,6 @@ mul-room-fault c =
     let e : countFault (c .before .before .args .n) ≡ 0 = sym (c .before .count-fault .ensures) ∙ c .if1 .left in
     omega (arith, count-few (c .before .before .args .n) e)
 
-room-fault-requires : tie.Need-room-fault-requires
-room-fault-requires c κs = search needs
-
 returns-2 : tie.Need-returns-2
 returns-2 c =
     let a = c .before .before .before .args in
@@ -35,4 +29,4 @@ returns-2 c =
 
 pub write-fault-spec : {M : Type 1} → statement M
 write-fault-spec =
-    tie.close (tie.spec count-fault-requires returns mul-room-fault room-fault-requires returns-2)
+    tie.close (tie.spec (λ c κs. search needs) returns mul-room-fault (λ c κs. search needs) returns-2)

@@ -13,7 +13,7 @@ use Rattle.message.specs.Message.{Message}
 use Rattle.history.specs.Calls.{Call, Entry, atClock, Note, adding, linking, receiving, nothing, noteOf}
 use Rattle.history.specs.Places.{passes, firstFree}
 use Rattle.history.specs.Reading.{Reading, noMessage, leftOver, oneMessage, Reader}
-use Rattle.history.specs.Summary.{Summary, tileAt, carries, noted, numberOn, summaryOf, readOn}
+use Rattle.history.specs.Summary.{Summary, tileAt, carries, noted, faultOn, summaryOf, readOn}
 use Rattle.history.specs.History.{CountsFor, LinkCall, NoneCounted}
 use Rattle.history.proofs.Laws.Places.{changedEach, filled-at, free-at, changed-at, changed-filled}
 use Rattle.history.proofs.Laws.Longer.{by-calls, isReceiving, isLinking, longer, book-next, book-kept, SameCounted, same-counted}
@@ -77,32 +77,32 @@ module _ (R : Reader) where
   room-more cs c = foldl-append (roomNext R) freshRoom cs (c ∷ [])
 
   module _ (m : Room) (c : Call) where
-    pub room-accepted : numberOn R (bookOf m) c ≡ 0 → roomNext R m c ≡ changed R m (noteOf c)
-    room-accepted z = ap (λ (t : Bool). cond t (changed R m (noteOf c)) m) (eq-eqb (numberOn R (bookOf m) c) 0 z)
+    pub room-accepted : faultOn R (bookOf m) c ≡ 0 → roomNext R m c ≡ changed R m (noteOf c)
+    room-accepted z = ap (λ (t : Bool). cond t (changed R m (noteOf c)) m) (eq-eqb (faultOn R (bookOf m) c) 0 z)
 
-    pub room-refused : (numberOn R (bookOf m) c ≡ 0 → ⊥) → roomNext R m c ≡ m
-    room-refused z = ap (λ (t : Bool). cond t (changed R m (noteOf c)) m) (ne-eqb (numberOn R (bookOf m) c) 0 z)
+    pub room-refused : (faultOn R (bookOf m) c ≡ 0 → ⊥) → roomNext R m c ≡ m
+    room-refused z = ap (λ (t : Bool). cond t (changed R m (noteOf c)) m) (ne-eqb (faultOn R (bookOf m) c) 0 z)
 
-  abbrev BookTheorems : List Call → Type 0
-  BookTheorems cs = bookOf (roomAfter R cs) ≡ summaryOf R cs
+  abbrev BookExamples : List Call → Type 0
+  BookExamples cs = bookOf (roomAfter R cs) ≡ summaryOf R cs
 
-  books-more : (cs : List Call) (c : Call) → BookTheorems cs → BookTheorems (longer R cs c)
+  books-more : (cs : List Call) (c : Call) → BookExamples cs → BookExamples (longer R cs c)
   books-more cs c e =
       let m = roomAfter R cs in
-      let f : numberOn R (bookOf m) c ≡ numberOn R (summaryOf R cs) c = ap (λ (b : Summary). numberOn R b c) e in
+      let f : faultOn R (bookOf m) c ≡ faultOn R (summaryOf R cs) c = ap (λ (b : Summary). faultOn R b c) e in
       ap bookOf (room-more cs c)
-      ∙ by-zero (numberOn R (bookOf m) c)
+      ∙ by-zero (faultOn R (bookOf m) c)
       (λ z.
       ap bookOf (room-accepted m c z) ∙ book-changed m (noteOf c) ∙ ap (λ (b : Summary). noted b (noteOf c)) e
       ∙ sym (book-next R cs c (sym f ∙ z)))
       (λ z. ap bookOf (room-refused m c z) ∙ e ∙ sym (book-kept R cs c (λ y. z (f ∙ y))))
 
-  books-start : BookTheorems []
+  books-start : BookExamples []
   unfolding roomAfter summaryOf
   books-start = refl
 
-  pub books : (cs : List Call) → BookTheorems cs
-  books = by-calls BookTheorems books-start books-more
+  pub books : (cs : List Call) → BookExamples cs
+  books = by-calls BookExamples books-start books-more
 
   -- what the book has under a number
   pub book-at : (cs : List Call) (i : ℕ) → tileAt (summaryOf R cs) i ≡ Option·map entryOf (roomAt (roomAfter R cs) i)
@@ -138,7 +138,7 @@ module _ (R : Reader) where
           same-bytes : (u : ℕ) (w : List ℕ) → receiving t s ≡ receiving u w → s ≡ w
           same-bytes u w y = cc
 
-      received-at : numberOn R (summaryOf R cs) c ≡ 0 → (r : Reading) → readOn R (summaryOf R cs .link .up) s ≡ r → (o : Option RoomTile) → roomAt m i ≡ o → Now o
+      received-at : faultOn R (summaryOf R cs) c ≡ 0 → (r : Reading) → readOn R (summaryOf R cs .link .up) s ≡ r → (o : Option RoomTile) → roomAt m i ≡ o → Now o
           → Then (Option·map (countedBy t r) o)
       received-at z r e none g h = passed-by r e (λ n y. ap (passes (carries n)) (book-at cs i ∙ ap (Option·map entryOf) g)) none h
       received-at z (noMessage k) e (some x) g h = passed-by (noMessage k) e (λ n y. absurd (no-message n y)) (some x) h
@@ -160,7 +160,7 @@ module _ (R : Reader) where
           same-message : (a b : Message) → oneMessage a ≡ oneMessage b → a ≡ b
           same-message a b j = cc
 
-    holds-noted : (n : Note) → noteOf c ≡ n → numberOn R (summaryOf R cs) c ≡ 0 → Now (roomAt m i) → Then (roomAt (changed R m n) i)
+    holds-noted : (n : Note) → noteOf c ≡ n → faultOn R (summaryOf R cs) c ≡ 0 → Now (roomAt m i) → Then (roomAt (changed R m n) i)
     holds-noted (adding e) q z h =
         subst Then (sym (filled-at (newTile e) (m .tiles) i))
         (cond-cases Then (eqb i (firstFree (m .tiles))) (some (newTile e)) (roomAt m i)
@@ -181,9 +181,9 @@ module _ (R : Reader) where
 
     holds-more : Now (roomAt m i) → Then (roomAt (roomAfter R (longer R cs c)) i)
     holds-more h =
-        let f : numberOn R (bookOf m) c ≡ numberOn R (summaryOf R cs) c = ap (λ (b : Summary). numberOn R b c) (books cs) in
+        let f : faultOn R (bookOf m) c ≡ faultOn R (summaryOf R cs) c = ap (λ (b : Summary). faultOn R b c) (books cs) in
         subst (λ (x : Room). Then (roomAt x i)) (sym (room-more cs c))
-        (by-zero (numberOn R (bookOf m) c)
+        (by-zero (faultOn R (bookOf m) c)
         (λ z. subst (λ (x : Room). Then (roomAt x i)) (sym (room-accepted m c z)) (holds-noted (noteOf c) refl (sym f ∙ z) h))
         (λ z.
         subst (λ (x : Room). Then (roomAt x i)) (sym (room-refused m c z))

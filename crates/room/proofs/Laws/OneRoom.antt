@@ -12,7 +12,7 @@ use Rattle.fields.proofs.Laws.Checks.{zero-else, cond-pass}
 use Rattle.history.specs.Calls.{Call, add, linkUp, linkDown, message, look, Entry, Colour, green, grey, Answer, refused, added, empty, shown}
 use Rattle.history.specs.Places.{isThere, firstFree}
 use Rattle.history.specs.Reading.{Reader}
-use Rattle.history.specs.Summary.{Summary, tileAt, tileFault, clockFault, numberOn, summaryOf}
+use Rattle.history.specs.Summary.{Summary, tileAt, tileFault, clockFault, faultOn, summaryOf}
 use Rattle.history.specs.History.{holdTimeOf, NoLinkAfter, Current, NoneCounted, Last, OfLast, Shown, Accepted, Answers}
 use Rattle.history.proofs.Laws.Rows.{clock-passed}
 use Rattle.history.proofs.Laws.Clocks.{known}
@@ -130,7 +130,7 @@ module _ (R : Reader) (cs : List Call) where
           last-shown R cs i now (x .entry) b h (x .sinceLink) (x .last) (subst (KeptBy R cs i) f (kept R cs i))
           (subst (MarkedBy R cs i) f (marked R cs i))
 
-  accepted-answer : (c : Call) → numberOn R (summaryOf R cs) c ≡ 0 → Accepted R cs c (answered R m c)
+  accepted-answer : (c : Call) → faultOn R (summaryOf R cs) c ≡ 0 → Accepted R cs c (answered R m c)
   accepted-answer (add t n h) z = ap (λ (b : Summary). added (firstFree (b .tiles))) (books R cs)
   accepted-answer (linkUp l t) z = refl
   accepted-answer (linkDown t) z = refl
@@ -142,9 +142,9 @@ module _ (R : Reader) (cs : List Call) where
 
   pub one-room : (c : Call) → Answers R cs c (roomAnswer R m c)
   one-room c =
-      let f : numberOn R (bookOf m) c ≡ numberOn R (summaryOf R cs) c = ap (λ (b : Summary). numberOn R b c) (books R cs) in
-      let chosen : Bool → Answer = λ t. cond t (answered R m c) (refused (numberOn R (bookOf m) c)) in
+      let f : faultOn R (bookOf m) c ≡ faultOn R (summaryOf R cs) c = ap (λ (b : Summary). faultOn R b c) (books R cs) in
+      let chosen : Bool → Answer = λ t. cond t (answered R m c) (refused (faultOn R (bookOf m) c)) in
       record {
-        refusal = λ z. ap chosen (ne-eqb (numberOn R (bookOf m) c) 0 (λ y. z (sym f ∙ y))) ∙ ap refused f;
-        acceptance = λ z. subst (Accepted R cs c) (sym (ap chosen (eq-eqb (numberOn R (bookOf m) c) 0 (f ∙ z)))) (accepted-answer c z);
+        refusal = λ z. ap chosen (ne-eqb (faultOn R (bookOf m) c) 0 (λ y. z (sym f ∙ y))) ∙ ap refused f;
+        acceptance = λ z. subst (Accepted R cs c) (sym (ap chosen (eq-eqb (faultOn R (bookOf m) c) 0 (f ∙ z)))) (accepted-answer c z);
       }

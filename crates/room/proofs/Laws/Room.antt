@@ -8,7 +8,7 @@ use Rattle.message.specs.Message.{Message}
 use Rattle.history.specs.Calls.{Call, add, linkUp, linkDown, message, look, Entry, Link, atClock, Note, adding, linking, receiving, nothing, noteOf, green, grey, Answer, refused, accepted, added, empty, shown}
 use Rattle.history.specs.Places.{placeAt, firstFree, filled}
 use Rattle.history.specs.Reading.{Reading, noMessage, leftOver, oneMessage, Reader}
-use Rattle.history.specs.Summary.{Summary, carries, numberOn, readOn}
+use Rattle.history.specs.Summary.{Summary, carries, faultOn, readOn}
 use Rattle.history.specs.History.{valueFor}
 use Rattle.history.proofs.Laws.Places.{changedEach}
 
@@ -86,10 +86,10 @@ module _ (R : Reader) where
   answered m (look i now) = shownBy (roomAt m i) now
 
   abbrev pub roomNext : Room → Call → Room
-  roomNext m c = cond (eqb (numberOn R (bookOf m) c) 0) (changed m (noteOf c)) m
+  roomNext m c = cond (eqb (faultOn R (bookOf m) c) 0) (changed m (noteOf c)) m
 
   abbrev pub roomAnswer : Room → Call → Answer
-  roomAnswer m c = cond (eqb (numberOn R (bookOf m) c) 0) (answered m c) (refused (numberOn R (bookOf m) c))
+  roomAnswer m c = cond (eqb (faultOn R (bookOf m) c) 0) (answered m c) (refused (faultOn R (bookOf m) c))
 
   unfoldable pub roomAfter : List Call → Room
   roomAfter cs = foldl roomNext freshRoom cs

@@ -6,11 +6,8 @@ use borrow.Author.Needs.{needs}
 use Rattle.vector_records.proofs.is_whole.Statement.{statement}
 use Rattle.vector_records.proofs.is_whole.Tie as tie
 
-end-requires : tie.Need-end-requires
-end-requires c κs = search needs
-
 returns : tie.Need-returns
 returns c = ap (λ n. leb n (length (c .before .before .args .s .now))) (c .end .ensures)
 
 pub is-whole-spec : {M : Type 1} → statement M
-is-whole-spec = tie.close (tie.spec end-requires returns)
+is-whole-spec = tie.close (tie.spec (λ c κs. search needs) returns)

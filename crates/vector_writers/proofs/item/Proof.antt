@@ -9,41 +9,17 @@ Inv-loop list i left₀ k₀ left k = Unit {0}
 abbrev μ-loop : tie.MeasureT-loop
 μ-loop list i left₀ k₀ left k = k
 
-rest-requires : tie.Need-rest-requires Inv-loop μ-loop
-rest-requires c κs = search needs
-
-loop-holds : tie.Need-loop-holds Inv-loop μ-loop
-loop-holds c = search needs
-
-after-field-requires : tie.Need-after-field-requires Inv-loop μ-loop
-after-field-requires c κs = search needs
-
-sub-k : tie.Need-sub-k Inv-loop μ-loop
-sub-k c = search needs
-
-loop-less : tie.Need-loop-less Inv-loop μ-loop
-loop-less c = search needs
-
-loop-again : tie.Need-loop-again Inv-loop μ-loop
-loop-again c = search needs
-
-field-requires : tie.Need-field-requires Inv-loop μ-loop
-field-requires c κs = search needs
-
-returns : tie.Need-returns Inv-loop μ-loop
-returns c = search needs
-
 pub item-spec : {M : Type 1} → statement M
 item-spec =
     tie.close
     (tie.spec
     Inv-loop
     μ-loop
-    rest-requires
-    loop-holds
-    after-field-requires
-    sub-k
-    loop-less
-    loop-again
-    field-requires
-    returns)
+    (λ c κs. search needs)
+    (λ c. search needs)
+    (λ c κs. search needs)
+    (λ c. search needs)
+    (λ c. search needs)
+    (λ c. search needs)
+    (λ c κs. search needs)
+    (λ c. search needs))

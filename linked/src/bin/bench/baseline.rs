@@ -2,6 +2,7 @@
 //! order, and the same passes over the bytes. A module has the name of the crate that it follows,
 //! which says what its functions answer.
 
+pub mod bind_cursor;
 pub mod bind_layout;
 pub mod cleaning;
 pub mod content;

@@ -32,6 +32,7 @@ fn main() {
     print_rows("BIND of empty children", Per::Child, &empty);
     let transforms = counts.map(|n| bind(n, b"TRANSFORM", &inputs::bytes(48)));
     print_rows("BIND of TRANSFORMs", Per::Child, &transforms);
+    print_rows("walk, empty children", Per::Child, &counts.map(walk));
     print_rows("writer, message", Per::Byte, &[transform_writer()]);
     let written = counts.map(bind_writer);
     print_rows("writer, BIND of TRANSFORMs", Per::Child, &written);
@@ -88,6 +89,32 @@ fn bind(n: usize, type_text: &[u8], data: &[u8]) -> Row {
         timer(|| rust::content_fault(b"BIND", black_box(&content))),
     ]);
     Row::new(&n.to_string(), n, times)
+}
+
+/// From the first child to the end. On our side a cursor goes over as 72 bytes, each time both ways.
+fn walk(n: usize) -> Row {
+    let content = inputs::bind(n, b"STATUS", &[]);
+    let ours = || {
+        let mut cursor = linked::first_child(black_box(&content));
+        let mut sum = 0;
+        while cursor[1] != 0 {
+            sum += cursor[2..8].iter().sum::<u64>();
+            cursor = linked::next_child(black_box(&content), cursor);
+        }
+        sum
+    };
+    let rust = || {
+        let mut cursor = rust::first_child(black_box(&content));
+        let mut sum = 0;
+        while cursor.left != 0 {
+            let places = cursor.type_at + cursor.name_at + cursor.at;
+            sum += (places + cursor.type_len + cursor.name_len + cursor.len) as u64;
+            cursor = rust::next_child(black_box(&content), cursor);
+        }
+        sum
+    };
+    assert_eq!(ours(), rust(), "{n} children");
+    Row::new(&n.to_string(), n, alternate([timer(ours), timer(rust)]))
 }
 
 fn transform_writer() -> Row {

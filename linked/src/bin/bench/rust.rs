@@ -1,5 +1,6 @@
 //! The Rust side's functions. The archive's are called and never inlined; so are these.
 
+use crate::baseline::bind_cursor::{self, Cursor};
 use crate::baseline::message::{self, Answer};
 use crate::baseline::replay::{self, CallAnswer};
 use crate::baseline::{content, crc64};
@@ -15,6 +16,16 @@ pub fn crc64(bytes: &[u8]) -> u64 {
 #[inline(never)]
 pub fn content_fault(type_text: &[u8], content: &[u8]) -> u8 {
     content::content_fault(type_text, content)
+}
+
+#[inline(never)]
+pub fn first_child(content: &[u8]) -> Cursor {
+    bind_cursor::first_child(content)
+}
+
+#[inline(never)]
+pub fn next_child(content: &[u8], cursor: Cursor) -> Cursor {
+    bind_cursor::next_child(content, cursor)
 }
 
 #[inline(never)]

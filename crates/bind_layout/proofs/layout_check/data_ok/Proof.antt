@@ -16,12 +16,6 @@ abbrev μ-loop : tie.MeasureT-loop
 loop-holds : tie.Need-loop-holds Inv-loop μ-loop
 loop-holds c = refl
 
-size-of-requires : tie.Need-size-of-requires Inv-loop μ-loop
-size-of-requires c κs = search needs
-
-block-ok-requires : tie.Need-block-ok-requires Inv-loop μ-loop
-block-ok-requires c κs = search needs
-
 returns : tie.Need-returns Inv-loop μ-loop
 unfolding dataOk
 returns c =
@@ -29,18 +23,6 @@ returns c =
     let s = walk-step (λ k. dataOk k (l .h .now) (l .d .now)) (l .left) (c .before .before .before .loop-test .taken) in
     let e = sym (c .before .block-ok .ensures) ∙ not-true _ (c .if1 .taken) in
     sym (l .inv ∙ s ∙ simp (sym (c .before .before .size-of .ensures), e))
-
-rest-requires : tie.Need-rest-requires Inv-loop μ-loop
-rest-requires c κs = search needs
-
-after-block-requires : tie.Need-after-block-requires Inv-loop μ-loop
-after-block-requires c κs = search needs
-
-sub-left : tie.Need-sub-left Inv-loop μ-loop
-sub-left c = search needs
-
-loop-less : tie.Need-loop-less Inv-loop μ-loop
-loop-less c = search needs
 
 loop-again : tie.Need-loop-again Inv-loop μ-loop
 unfolding dataOk
@@ -63,12 +45,12 @@ data-ok-spec =
     Inv-loop
     μ-loop
     loop-holds
-    size-of-requires
-    block-ok-requires
+    (λ c κs. search needs)
+    (λ c κs. search needs)
     returns
-    rest-requires
-    after-block-requires
-    sub-left
-    loop-less
+    (λ c κs. search needs)
+    (λ c κs. search needs)
+    (λ c. search needs)
+    (λ c. search needs)
     loop-again
     returns-2)

@@ -9,20 +9,11 @@ use Rattle.bind_layout.specs.BindLayout.{nameOk}
 use Rattle.bind_layout.proofs.layout_check.name_ok.Statement.{statement}
 use Rattle.bind_layout.proofs.layout_check.name_ok.Tie as tie
 
-text-len-requires : tie.Need-text-len-requires
-text-len-requires c κs = search needs
-
 returns : tie.Need-returns
 unfolding nameOk
 returns c =
     let e = le-ltb (c .before .text-len .result) (length (c .before .before .before .args .table .now)) (omega arith) in
     sym (simp (sym (c .before .text-len .ensures), e))
-
-text-of-requires : tie.Need-text-of-requires
-text-of-requires c κs = search needs
-
-is-text-requires : tie.Need-is-text-requires
-is-text-requires c κs = search needs
 
 returns-2 : tie.Need-returns-2
 unfolding nameOk textOk
@@ -33,4 +24,4 @@ returns-2 c =
 
 pub name-ok-spec : {M : Type 1} → statement M
 name-ok-spec =
-    tie.close (tie.spec text-len-requires returns text-of-requires is-text-requires returns-2)
+    tie.close (tie.spec (λ c κs. search needs) returns (λ c κs. search needs) (λ c κs. search needs) returns-2)

@@ -16,24 +16,12 @@ abbrev μ-loop : tie.MeasureT-loop
 loop-holds : tie.Need-loop-holds Inv-loop μ-loop
 loop-holds c = refl
 
-name-ok-requires : tie.Need-name-ok-requires Inv-loop μ-loop
-name-ok-requires c κs = search needs
-
 returns : tie.Need-returns Inv-loop μ-loop
 unfolding namesOk
 returns c =
     let l = c .before .before .before .loop in
     let s = walk-step (λ k. namesOk k (l .t .now)) (l .left) (c .before .before .loop-test .taken) in
     sym (l .inv ∙ s ∙ simp (sym (c .before .name-ok .ensures) ∙ not-true _ (c .if1 .taken)))
-
-past-text-requires : tie.Need-past-text-requires Inv-loop μ-loop
-past-text-requires c κs = search needs
-
-sub-left : tie.Need-sub-left Inv-loop μ-loop
-sub-left c = search needs
-
-loop-less : tie.Need-loop-less Inv-loop μ-loop
-loop-less c = search needs
 
 loop-again : tie.Need-loop-again Inv-loop μ-loop
 unfolding namesOk
@@ -49,9 +37,6 @@ returns-2 c =
     let e = walk-end (λ k. namesOk k (l .t .now)) (l .left) (c .before .loop-test .left) in
     sym (l .inv ∙ e ∙ simp (lt-leb _ _ (c .if2 .taken)))
 
-all-zero-requires : tie.Need-all-zero-requires Inv-loop μ-loop
-all-zero-requires c κs = search needs
-
 returns-3 : tie.Need-returns-3 Inv-loop μ-loop
 unfolding namesOk
 returns-3 c =
@@ -66,12 +51,12 @@ names-ok-spec =
     Inv-loop
     μ-loop
     loop-holds
-    name-ok-requires
+    (λ c κs. search needs)
     returns
-    past-text-requires
-    sub-left
-    loop-less
+    (λ c κs. search needs)
+    (λ c. search needs)
+    (λ c. search needs)
     loop-again
     returns-2
-    all-zero-requires
+    (λ c κs. search needs)
     returns-3)

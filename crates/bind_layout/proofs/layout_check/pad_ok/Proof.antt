@@ -10,15 +10,9 @@ returns : tie.Need-returns
 unfolding padOk
 returns c = sym (simp (lt-leb _ _ (c .if1 .taken)))
 
-first-requires : tie.Need-first-requires
-first-requires c κs = search needs
-
-all-zero-requires : tie.Need-all-zero-requires
-all-zero-requires c κs = search needs
-
 returns-2 : tie.Need-returns-2
 unfolding padOk
 returns-2 c = sym (simp (le-leb _ _ (c .before .before .if1 .left), c .all-zero .ensures, c .before .first .ensures))
 
 pub pad-ok-spec : {M : Type 1} → statement M
-pad-ok-spec = tie.close (tie.spec returns first-requires all-zero-requires returns-2)
+pad-ok-spec = tie.close (tie.spec returns (λ c κs. search needs) (λ c κs. search needs) returns-2)

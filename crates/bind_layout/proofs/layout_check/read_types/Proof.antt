@@ -27,12 +27,6 @@ abbrev μ-loop : tie.MeasureT-loop
 loop-holds : tie.Need-loop-holds Inv-loop μ-loop
 loop-holds c = (refl, refl)
 
-first-requires : tie.Need-first-requires Inv-loop μ-loop
-first-requires c κs = search needs
-
-read-field-requires : tie.Need-read-field-requires Inv-loop μ-loop
-read-field-requires c κs = search needs
-
 returns : tie.Need-returns Inv-loop μ-loop
 returns c =
     let l = c .before .before .before .before .before .loop in
@@ -41,18 +35,6 @@ returns c =
     let f = ap (λ (x : TextField). x .ok) (c .before .before .read-field .ensures) ∙ ap textOk (c .before .before .before .first .ensures) in
     let e : textOk (take 12 h) ≡ false = sym f ∙ not-true _ (c .if1 .taken) in
     sym (answer (l .inv .0 ∙ types-stop (l .left) h p e) (l .inv .1 ∙ ap (λ (t : Bool). l .clean && t) (clean-stop (l .left) h p e) ∙ and-false (l .clean)))
-
-both-requires : tie.Need-both-requires Inv-loop μ-loop
-both-requires c κs = search needs
-
-rest-requires : tie.Need-rest-requires Inv-loop μ-loop
-rest-requires c κs = search needs
-
-sub-left : tie.Need-sub-left Inv-loop μ-loop
-sub-left c = search needs
-
-loop-less : tie.Need-loop-less Inv-loop μ-loop
-loop-less c = search needs
 
 loop-again : tie.Need-loop-again Inv-loop μ-loop
 loop-again c =
@@ -84,12 +66,12 @@ read-types-spec =
     Inv-loop
     μ-loop
     loop-holds
-    first-requires
-    read-field-requires
+    (λ c κs. search needs)
+    (λ c κs. search needs)
     returns
-    both-requires
-    rest-requires
-    sub-left
-    loop-less
+    (λ c κs. search needs)
+    (λ c κs. search needs)
+    (λ c. search needs)
+    (λ c. search needs)
     loop-again
     returns-2)

@@ -10,12 +10,9 @@ returns : tie.Need-returns
 unfolding tableOk
 returns c = sym (simp (ne-eqb _ _ (c .if1 .taken)))
 
-names-ok-requires : tie.Need-names-ok-requires
-names-ok-requires c κs = search needs
-
 returns-2 : tie.Need-returns-2
 unfolding tableOk
 returns-2 c = sym (simp (eq-eqb _ _ (c .before .if1 .left), c .names-ok .ensures))
 
 pub table-ok-spec : {M : Type 1} → statement M
-table-ok-spec = tie.close (tie.spec returns names-ok-requires returns-2)
+table-ok-spec = tie.close (tie.spec returns (λ c κs. search needs) returns-2)

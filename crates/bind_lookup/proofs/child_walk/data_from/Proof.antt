@@ -14,29 +14,8 @@ Inv-loop content i h₀ d₀ left₀ h d left = dataFrom i (headers content) (da
 abbrev μ-loop : tie.MeasureT-loop
 μ-loop content i h₀ d₀ left₀ h d left = left
 
-headers-requires : tie.Need-headers-requires Inv-loop μ-loop
-headers-requires c κs = search needs
-
-data-of-requires : tie.Need-data-of-requires Inv-loop μ-loop
-data-of-requires c κs = search needs
-
 loop-holds : tie.Need-loop-holds Inv-loop μ-loop
 loop-holds c = ap₂ (dataFrom _) (sym (c .before .headers .ensures)) (sym (c .data-of .ensures))
-
-size-of-requires : tie.Need-size-of-requires Inv-loop μ-loop
-size-of-requires c κs = search needs
-
-after-block-requires : tie.Need-after-block-requires Inv-loop μ-loop
-after-block-requires c κs = search needs
-
-rest-requires : tie.Need-rest-requires Inv-loop μ-loop
-rest-requires c κs = search needs
-
-sub-left : tie.Need-sub-left Inv-loop μ-loop
-sub-left c = search needs
-
-loop-less : tie.Need-loop-less Inv-loop μ-loop
-loop-less c = search needs
 
 loop-again : tie.Need-loop-again Inv-loop μ-loop
 unfolding dataFrom
@@ -59,13 +38,13 @@ data-from-spec =
     (tie.spec
     Inv-loop
     μ-loop
-    headers-requires
-    data-of-requires
+    (λ c κs. search needs)
+    (λ c κs. search needs)
     loop-holds
-    size-of-requires
-    after-block-requires
-    rest-requires
-    sub-left
-    loop-less
+    (λ c κs. search needs)
+    (λ c κs. search needs)
+    (λ c κs. search needs)
+    (λ c. search needs)
+    (λ c. search needs)
     loop-again
     returns)

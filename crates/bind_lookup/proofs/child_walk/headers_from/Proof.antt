@@ -8,12 +8,6 @@ use Rattle.bind_layout.specs.BindLayout.{headers}
 use Rattle.bind_lookup.proofs.child_walk.headers_from.Statement.{statement}
 use Rattle.bind_lookup.proofs.child_walk.headers_from.Tie as tie
 
-headers-requires : tie.Need-headers-requires
-headers-requires c κs = search needs
-
-slice-aggregate-result : tie.Need-slice-aggregate-result
-slice-aggregate-result c = search needs
-
 returns : tie.Need-returns
 returns c =
     let z = c .before .before .before .before .args in
@@ -21,16 +15,10 @@ returns c =
     let k : length h ≤ 20 * z .i = omega (arith, ap length (c .before .before .headers .ensures), c .before .if1 .taken) in
     sym (drop-of-length-le h k)
 
-mul-rest : tie.Need-mul-rest
-mul-rest c = search needs
-
-rest-requires : tie.Need-rest-requires
-rest-requires c κs = search needs
-
 returns-2 : tie.Need-returns-2
 returns-2 c = cc
 
 pub headers-from-spec : {M : Type 1} → statement M
 headers-from-spec =
     tie.close
-    (tie.spec headers-requires slice-aggregate-result returns mul-rest rest-requires returns-2)
+    (tie.spec (λ c κs. search needs) (λ c. search needs) returns (λ c. search needs) (λ c κs. search needs) returns-2)

@@ -23,12 +23,6 @@ loop-holds c =
     let e = ap (λ (m : ℕ). indexIn m (z .table .now) (z .name .now)) (sub-zero (z .n)) in
     omega arith
 
-text-of-requires : tie.Need-text-of-requires Inv-loop μ-loop
-text-of-requires c κs = search needs
-
-same-requires : tie.Need-same-requires Inv-loop μ-loop
-same-requires c κs = search needs
-
 returns : tie.Need-returns Inv-loop μ-loop
 unfolding indexIn
 returns c =
@@ -37,15 +31,6 @@ returns c =
     let f = sym (c .before .same .ensures ∙ ap (λ (l : List ℕ). same l (z .name .now)) (c .before .before .text-of .ensures)) ∙ c .if1 .taken in
     let p : z .n - a .loop .i ≡ suc (z .n - a .loop .i - 1) = omega arith in
     sym (a .loop .inv .1 ∙ ap (λ (m : ℕ). a .loop .i + indexIn m (a .loop .t .now) (z .name .now)) p ∙ simp f (omega arith))
-
-past-text-requires : tie.Need-past-text-requires Inv-loop μ-loop
-past-text-requires c κs = search needs
-
-add-i : tie.Need-add-i Inv-loop μ-loop
-add-i c = search needs
-
-loop-less : tie.Need-loop-less Inv-loop μ-loop
-loop-less c = search needs
 
 loop-again : tie.Need-loop-again Inv-loop μ-loop
 loop-again c =
@@ -72,11 +57,11 @@ index-in-spec =
     Inv-loop
     μ-loop
     loop-holds
-    text-of-requires
-    same-requires
+    (λ c κs. search needs)
+    (λ c κs. search needs)
     returns
-    past-text-requires
-    add-i
-    loop-less
+    (λ c κs. search needs)
+    (λ c. search needs)
+    (λ c. search needs)
     loop-again
     returns-2)

@@ -16,15 +16,6 @@ abbrev μ-loop : tie.MeasureT-loop
 loop-holds : tie.Need-loop-holds Inv-loop μ-loop
 loop-holds c = refl
 
-past-text-requires : tie.Need-past-text-requires Inv-loop μ-loop
-past-text-requires c κs = search needs
-
-sub-left : tie.Need-sub-left Inv-loop μ-loop
-sub-left c = search needs
-
-loop-less : tie.Need-loop-less Inv-loop μ-loop
-loop-less c = search needs
-
 loop-again : tie.Need-loop-again Inv-loop μ-loop
 unfolding namesFrom
 loop-again c =
@@ -40,4 +31,4 @@ returns c =
 pub names-from-spec : {M : Type 1} → statement M
 names-from-spec =
     tie.close
-    (tie.spec Inv-loop μ-loop loop-holds past-text-requires sub-left loop-less loop-again returns)
+    (tie.spec Inv-loop μ-loop loop-holds (λ c κs. search needs) (λ c. search needs) (λ c. search needs) loop-again returns)

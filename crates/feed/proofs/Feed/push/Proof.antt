@@ -7,20 +7,11 @@ use Rattle.feed.proofs.Laws.Code.{push-refuses, push-passes, push-keeps
 use Rattle.feed.proofs.Feed.push.Statement.{statement}
 use Rattle.feed.proofs.Feed.push.Tie as tie
 
-push-fault-requires : tie.Need-push-fault-requires
-push-fault-requires c κs = search needs
-
-refuses-requires : tie.Need-refuses-requires
-refuses-requires c κs = search needs
-
 returns : tie.Need-returns
 returns c =
     let a = c .before .before .before .before .before .args in
     let w = push-refuses (a .self) (a .fragment .now) (a .buffer .now) _ (c .before .before .push-fault .ensures) (c .before .if1 .taken) in
     (c .refuses .ensures ∙ w .0, w .1)
-
-pass-requires : tie.Need-pass-requires
-pass-requires c κs = search needs
 
 returns-2 : tie.Need-returns-2
 returns-2 c =
@@ -29,16 +20,10 @@ returns-2 c =
     let w = push-passes (a .self) (a .fragment .now) (a .buffer .now) none (c .before .if2 .taken) in
     (c .pass .ensures ∙ w .0, w .1)
 
-least-requires : tie.Need-least-requires
-least-requires c κs = search needs
-
 take-in-requires : tie.Need-take-in-requires
 take-in-requires c κs =
     let none = sym (c .before .before .before .before .before .push-fault .ensures) ∙ c .before .before .before .before .if1 .left in
     (room-large (c .before .before .before .before .before .before .before .before .args .self) _ none, omega (arith, c .before .least .ensures))
-
-same-length : tie.Need-same-length
-same-length c = search needs
 
 returns-3 : tie.Need-returns-3
 returns-3 c =
@@ -52,12 +37,12 @@ pub push-spec : {M : Type 1} → statement M
 push-spec =
     tie.close
     (tie.spec
-    push-fault-requires
-    refuses-requires
+    (λ c κs. search needs)
+    (λ c κs. search needs)
     returns
-    pass-requires
+    (λ c κs. search needs)
     returns-2
-    least-requires
+    (λ c κs. search needs)
     take-in-requires
-    same-length
+    (λ c. search needs)
     returns-3)

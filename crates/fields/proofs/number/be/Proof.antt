@@ -16,20 +16,11 @@ Inv-loop s at n t v₀ i₀ v i = (i ≤ length t) × (v ≡ beVal (take i t)) �
 abbrev μ-loop : tie.MeasureT-loop
 μ-loop s at n t v₀ i₀ v i = length t - i
 
-part-requires : tie.Need-part-requires Inv-loop μ-loop
-part-requires c κs = search needs
-
 loop-holds : tie.Need-loop-holds Inv-loop μ-loop
 unfolding beVal
 loop-holds c =
     let a = c .before .before .args in
     (omega arith, refl, omega arith, omega (arith, ap length (c .part .ensures), length-take (a .n) (drop (a .at) (a .s .now))))
-
-shared-slice-read-wide : tie.Need-shared-slice-read-wide Inv-loop μ-loop
-shared-slice-read-wide c = search needs
-
-wide-requires : tie.Need-wide-requires Inv-loop μ-loop
-wide-requires c κs = search needs
 
 mul-v : tie.Need-mul-v Inv-loop μ-loop
 mul-v c =
@@ -41,12 +32,6 @@ add-v c =
     let l = c .before .before .before .loop in
     let b : c .wide .result < 256 = omega (arith, c .before .shared-slice-known2 .given (l .i)) in
     omega (arith, next-fits (l .v) (c .wide .result) (l .i) (omega arith) (l .inv .2) b)
-
-add-i : tie.Need-add-i Inv-loop μ-loop
-add-i c = search needs
-
-loop-less : tie.Need-loop-less Inv-loop μ-loop
-loop-less c = search needs
 
 loop-again : tie.Need-loop-again Inv-loop μ-loop
 loop-again c =
@@ -73,13 +58,13 @@ be-spec =
     (tie.spec
     Inv-loop
     μ-loop
-    part-requires
+    (λ c κs. search needs)
     loop-holds
-    shared-slice-read-wide
-    wide-requires
+    (λ c. search needs)
+    (λ c κs. search needs)
     mul-v
     add-v
-    add-i
-    loop-less
+    (λ c. search needs)
+    (λ c. search needs)
     loop-again
     returns)

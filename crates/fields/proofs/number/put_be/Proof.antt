@@ -10,27 +10,6 @@ use Rattle.fields.proofs.Laws.Numbers.{last-beBytes}
 use Rattle.fields.proofs.number.put_be.Statement.{statement}
 use Rattle.fields.proofs.number.put_be.Tie as tie
 
-bytes8-requires : tie.Need-bytes8-requires
-bytes8-requires c κs = search needs
-
-sub-put : tie.Need-sub-put
-sub-put c = search needs
-
-sub-put-2 : tie.Need-sub-put-2
-sub-put-2 c = search needs
-
-part-put-start : tie.Need-part-put-start
-part-put-start c = search needs
-
-part-put-end : tie.Need-part-put-end
-part-put-end c = search needs
-
-put-requires : tie.Need-put-requires
-put-requires c κs = search needs
-
-same-length : tie.Need-same-length
-same-length c = search needs
-
 returns : tie.Need-returns
 returns c =
     let a = c .before .before .before .before .before .before .before .before .args in
@@ -43,11 +22,11 @@ pub put-be-spec : {M : Type 1} → statement M
 put-be-spec =
     tie.close
     (tie.spec
-    bytes8-requires
-    sub-put
-    sub-put-2
-    part-put-start
-    part-put-end
-    put-requires
-    same-length
+    (λ c κs. search needs)
+    (λ c. search needs)
+    (λ c. search needs)
+    (λ c. search needs)
+    (λ c. search needs)
+    (λ c κs. search needs)
+    (λ c. search needs)
     returns)

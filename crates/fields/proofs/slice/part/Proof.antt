@@ -5,14 +5,8 @@ use borrow.Author.Needs.{needs}
 use Rattle.fields.proofs.slice.part.Statement.{statement}
 use Rattle.fields.proofs.slice.part.Tie as tie
 
-rest-requires : tie.Need-rest-requires
-rest-requires c κs = search needs
-
-first-requires : tie.Need-first-requires
-first-requires c κs = search needs
-
 returns : tie.Need-returns
 returns c = c .first .ensures ∙ ap (take (c .before .before .before .args .n)) (c .before .rest .ensures)
 
 pub part-spec : {M : Type 1} → statement M
-part-spec = tie.close (tie.spec rest-requires first-requires returns)
+part-spec = tie.close (tie.spec (λ c κs. search needs) (λ c κs. search needs) returns)

@@ -5,14 +5,8 @@ use Rattle.fields.proofs.Laws.Stores.{sets-zeros}
 use Rattle.fields.proofs.store.array48.Statement.{statement}
 use Rattle.fields.proofs.store.array48.Tie as tie
 
-slice-aggregate-put : tie.Need-slice-aggregate-put
-slice-aggregate-put c = search needs
-
-put-requires : tie.Need-put-requires
-put-requires c κs = search needs
-
 returns : tie.Need-returns
 returns c = c .before .put .ensures ∙ sets-zeros 48 (c .before .before .before .before .args .s .now)
 
 pub array48-spec : {M : Type 1} → statement M
-array48-spec = tie.close (tie.spec slice-aggregate-put put-requires returns)
+array48-spec = tie.close (tie.spec (λ c. search needs) (λ c κs. search needs) returns)

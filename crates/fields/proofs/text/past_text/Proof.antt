@@ -8,14 +8,8 @@ use Rattle.fields.proofs.Laws.Text.{past-drop, length-textOf}
 use Rattle.fields.proofs.text.past_text.Statement.{statement}
 use Rattle.fields.proofs.text.past_text.Tie as tie
 
-text-len-requires : tie.Need-text-len-requires
-text-len-requires c κs = search needs
-
 add-rest : tie.Need-add-rest
 add-rest c = omega (arith, length-textOf (c .before .before .args .s .now))
-
-rest-requires : tie.Need-rest-requires
-rest-requires c κs = search needs
 
 returns : tie.Need-returns
 returns c =
@@ -23,4 +17,4 @@ returns c =
     c .rest .ensures ∙ ap (λ (n : ℕ). drop (n + 1) s) (c .before .text-len .ensures) ∙ sym (past-drop s)
 
 pub past-text-spec : {M : Type 1} → statement M
-past-text-spec = tie.close (tie.spec text-len-requires add-rest rest-requires returns)
+past-text-spec = tie.close (tie.spec (λ c κs. search needs) add-rest (λ c κs. search needs) returns)

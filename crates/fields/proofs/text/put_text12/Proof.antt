@@ -4,22 +4,10 @@ use Rattle.fields.specs.Text.{textBytes}
 use Rattle.fields.proofs.text.put_text12.Statement.{statement}
 use Rattle.fields.proofs.text.put_text12.Tie as tie
 
-array12-requires : tie.Need-array12-requires
-array12-requires c κs = search needs
-
-slice-aggregate-put : tie.Need-slice-aggregate-put
-slice-aggregate-put c = search needs
-
-put-requires : tie.Need-put-requires
-put-requires c κs = search needs
-
-same-length : tie.Need-same-length
-same-length c = search needs
-
 returns : tie.Need-returns
 unfolding textBytes
 returns c = cc
 
 pub put-text12-spec : {M : Type 1} → statement M
 put-text12-spec =
-    tie.close (tie.spec array12-requires slice-aggregate-put put-requires same-length returns)
+    tie.close (tie.spec (λ c κs. search needs) (λ c. search needs) (λ c κs. search needs) (λ c. search needs) returns)

@@ -7,16 +7,10 @@ use Rattle.fields.proofs.Laws.Text.{text-take}
 use Rattle.fields.proofs.text.text_of.Statement.{statement}
 use Rattle.fields.proofs.text.text_of.Tie as tie
 
-text-len-requires : tie.Need-text-len-requires
-text-len-requires c κs = search needs
-
-first-requires : tie.Need-first-requires
-first-requires c κs = search needs
-
 returns : tie.Need-returns
 returns c =
     let s = c .before .before .before .args .s .now in
     c .first .ensures ∙ ap (λ (n : ℕ). take n s) (c .before .text-len .ensures) ∙ sym (text-take s)
 
 pub text-of-spec : {M : Type 1} → statement M
-text-of-spec = tie.close (tie.spec text-len-requires first-requires returns)
+text-of-spec = tie.close (tie.spec (λ c κs. search needs) (λ c κs. search needs) returns)

@@ -9,9 +9,6 @@ use Rattle.message.proofs.body.is_fit.Tie as tie
 returns : tie.Need-returns
 returns c = sym (fits-long _ _ _ _ _ _ (c .before .if1 .taken) (omega (arith, c .if2 .taken)))
 
-size-fits-requires : tie.Need-size-fits-requires
-size-fits-requires c κs = search needs
-
 returns-2 : tie.Need-returns-2
 returns-2 c = c .size-fits .ensures ∙ sym (fits-rest _ _ _ _ _ _ (c .before .before .if1 .taken) (omega (arith, c .before .if2 .left)))
 
@@ -25,4 +22,4 @@ returns-5 : tie.Need-returns-5
 returns-5 c = sym (fits-none _ _ _ _ _ _ (c .before .before .if1 .left) (c .before .if3 .left) (c .if4 .left))
 
 pub is-fit-spec : {M : Type 1} → statement M
-is-fit-spec = tie.close (tie.spec returns size-fits-requires returns-2 returns-3 returns-4 returns-5)
+is-fit-spec = tie.close (tie.spec returns (λ c κs. search needs) returns-2 returns-3 returns-4 returns-5)

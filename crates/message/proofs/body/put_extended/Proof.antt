@@ -1,13 +1,13 @@
 -- `message::body::put_extended` meets its contract: seven stores, each where the one before it ends, are one of the joined fields.
 use Prim.Native.Nat.{ℕ, _+_}
-use mathlib.Core.Path.{ap, ap₂, sym, _∙_, subst}
+use mathlib.Core.Path.{refl, ap, ap₂, sym, _∙_, subst}
 use native.Mathlib.Omega.{arith}
 use mathlib.Core.List.{List}
 use lib.ListN.{length}
 use lib.Seq.{sets}
 use borrow.Author.Needs.{needs}
 use Rattle.fields.specs.Numbers.{beBytes}
-use Rattle.metadata.specs.MetadataCheck.{indexIn}
+use Rattle.metadata.specs.MetadataCheck.{indexSizeIn}
 use Rattle.content.specs.ContentCheck.{deepest}
 use Rattle.cleaning.specs.CleanBytes.{cleanBytes}
 use Rattle.cleaning.proofs.Laws.Lengths.{length-clean}
@@ -15,25 +15,25 @@ use Rattle.cleaning.proofs.Laws.CleaningWalk.{put-left}
 use Rattle.message.specs.declared.extended.ExtendedNumbers.{ExtendedNumbers}
 use Rattle.message.specs.Body.{extendedNumbers, MetadataFits}
 use Rattle.message.specs.MessageWriter.{sectionsGiven}
-use Rattle.message.proofs.Laws.Body.{extended-stored}
+use Rattle.message.proofs.Laws.Body.{body-2, extended-stored}
 use Rattle.message.proofs.body.put_extended.Statement.{statement}
 use Rattle.message.proofs.body.put_extended.Tie as tie
 
 add-content-at : tie.Need-add-content-at
-add-content-at c = search needs
+add-content-at c = omega (arith, c .before .before .before .before .before .pre .0 refl .0)
 
 add-metadata-at : tie.Need-add-metadata-at
-add-metadata-at c = search needs
+add-metadata-at c = omega (arith, c .before .before .before .before .before .pre .0 refl .0, c .before .before .before .before .before .pre .1)
 
 index-size-requires : tie.Need-index-size-requires
 index-size-requires c κs = search needs
 
 extended-numbers-requires : tie.Need-extended-numbers-requires
 extended-numbers-requires c κs = let start = c .before .before .before .before .before .before in
-    subst (λ (k : ℕ). MetadataFits (start .args .layout) k (length (start .args .metadata .now))) (sym (c .index-size .ensures)) (start .pre .1)
+    subst (λ (k : ℕ). MetadataFits (start .args .layout) k (length (start .args .metadata .now))) (sym (c .index-size .ensures)) (start .pre .0 refl .1)
 
 cast-put16 : tie.Need-cast-put16
-cast-put16 c = search needs
+cast-put16 c = search (needs, c .before .before .before .before .before .before .before .pre .0 refl .0)
 
 put16-requires : tie.Need-put16-requires
 put16-requires c κs = search needs
@@ -75,6 +75,7 @@ returns c =
     let t = a .type-text .now in
     let y = a .content .now in
     let n : ℕ = 12 + length (a .further .now) in
+    let x = sectionsGiven (a .id) (a .further .now) (cleanBytes deepest t y) (a .metadata .now) in
     let e = c0 .extended-numbers .ensures
     ∙ ap (λ (k : ℕ). extendedNumbers (a .layout) k (length (a .metadata .now)) (a .id)) (c0 .before .index-size .ensures) in
     let front = c5 .put .ensures
@@ -86,10 +87,11 @@ returns c =
     (c2 .put162 .ensures ∙ ap₂ (λ (r : List ℕ) (x : ExtendedNumbers). sets r 2 (beBytes 2 (x .second))) (c1 .put16 .ensures) e) e) e) in
     let clean =
     put-left deepest t y n _ _ (c6 .put-clean .ensures)
-    (omega (arith, start .pre .3, c5 .put .kept .1 .1 .0, c4 .put322 .kept .1 .1 .0, c3 .put32 .kept .1 .1 .0, c2 .put162 .kept .1 .1 .0, c1 .put16 .kept .1 .1 .0)) in
+    (omega (arith, start .pre .2, c5 .put .kept .1 .1 .0, c4 .put322 .kept .1 .1 .0, c3 .put32 .kept .1 .1 .0, c2 .put162 .kept .1 .1 .0, c1 .put16 .kept .1 .1 .0)) in
     c7 .put2 .ensures
     ∙ ap₂ (λ (r : List ℕ) (k : ℕ). sets r (n + k) (a .metadata .now)) (clean ∙ ap (λ (r : List ℕ). sets r n (cleanBytes deepest t y)) front) (sym (length-clean deepest t y))
-    ∙ extended-stored (a .layout) (indexIn (a .metadata .now)) (sectionsGiven (a .id) (a .further .now) (cleanBytes deepest t y) (a .metadata .now)) (a .out .now)
+    ∙ extended-stored (a .layout) (indexSizeIn (a .metadata .now)) x (a .out .now)
+    ∙ ap (sets (a .out .now) 0) (sym (body-2 (a .layout) 2 (indexSizeIn (a .metadata .now)) x refl))
 
 pub put-extended-spec : {M : Type 1} → statement M
 put-extended-spec =

@@ -8,11 +8,8 @@ use Rattle.message.proofs.body.sizes_fault.Tie as tie
 returns : tie.Need-returns
 returns c = sym (sizes-1 _ _ _ _ (c .if1 .taken))
 
-index-fault-requires : tie.Need-index-fault-requires
-index-fault-requires c κs = search needs
-
 returns-2 : tie.Need-returns-2
-returns-2 c = c .index-fault .ensures ∙ sym (sizes-2 _ _ _ _ (c .before .if1 .left))
+returns-2 c = c .index-size-fault .ensures ∙ sym (sizes-2 _ _ _ _ (c .before .if1 .left))
 
 pub sizes-fault-spec : {M : Type 1} → statement M
-sizes-fault-spec = tie.close (tie.spec returns index-fault-requires returns-2)
+sizes-fault-spec = tie.close (tie.spec returns (λ c κs. search needs) returns-2)

@@ -28,9 +28,6 @@ cast-t8 c =
     let f = subst (λ (l : Layout). MetadataFits l (a .index) (a .metadata)) (c .enum-told .given .1) (c .before .before .pre) in
     omega (arith, f .2)
 
-enum-told-2 : tie.Need-enum-told-2
-enum-told-2 c = search needs
-
 cast-t9 : tie.Need-cast-t9
 cast-t9 c =
     let a = c .before .before .args in
@@ -48,4 +45,4 @@ returns-2 c =
     sym (ap (λ (l : Layout). extendedNumbers l (a .index) (a .metadata) (a .id)) (c .enum-told2 .given .1))
 
 pub extended-numbers-spec : {M : Type 1} → statement M
-extended-numbers-spec = tie.close (tie.spec enum-told cast-t6 sub-t7 cast-t8 enum-told-2 cast-t9 returns returns-2)
+extended-numbers-spec = tie.close (tie.spec enum-told cast-t6 sub-t7 cast-t8 (λ c. search needs) cast-t9 returns returns-2)

@@ -9,15 +9,6 @@ use Rattle.message.proofs.extended.id_of.Tie as tie
 enum-told : tie.Need-enum-told
 enum-told c = search needs
 
-be32-requires : tie.Need-be32-requires
-be32-requires c κs = search needs
-
-enum-told-2 : tie.Need-enum-told-2
-enum-told-2 c = search needs
-
-be32-requires-2 : tie.Need-be32-requires-2
-be32-requires-2 c κs = search needs
-
 returns : tie.Need-returns
 returns c = c .be32 .ensures ∙ sym (ap (λ (l : Layout). idAt l (c .before .before .before .before .args .body .now)) (c .before .enum-told .given .1))
 
@@ -25,4 +16,4 @@ returns-2 : tie.Need-returns-2
 returns-2 c = c .be322 .ensures ∙ sym (ap (λ (l : Layout). idAt l (c .before .before .before .before .args .body .now)) (c .before .enum-told2 .given .1))
 
 pub id-of-spec : {M : Type 1} → statement M
-id-of-spec = tie.close (tie.spec enum-told be32-requires enum-told-2 be32-requires-2 returns returns-2)
+id-of-spec = tie.close (tie.spec enum-told (λ c κs. search needs) (λ c. search needs) (λ c κs. search needs) returns returns-2)

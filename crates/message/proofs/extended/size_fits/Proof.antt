@@ -9,9 +9,6 @@ use Rattle.message.proofs.extended.size_fits.Tie as tie
 enum-told : tie.Need-enum-told
 enum-told c = search needs
 
-enum-told-2 : tie.Need-enum-told-2
-enum-told-2 c = search needs
-
 returns : tie.Need-returns
 returns c = let a = c .before .before .args in
     sym (ap (λ (l : Layout). sizeFits l (a .index) (a .metadata)) (c .enum-told .given .1))
@@ -21,4 +18,4 @@ returns-2 c = let a = c .before .before .args in
     sym (ap (λ (l : Layout). sizeFits l (a .index) (a .metadata)) (c .enum-told2 .given .1))
 
 pub size-fits-spec : {M : Type 1} → statement M
-size-fits-spec = tie.close (tie.spec enum-told enum-told-2 returns returns-2)
+size-fits-spec = tie.close (tie.spec enum-told (λ c. search needs) returns returns-2)

@@ -16,9 +16,6 @@ abbrev μ-loop : tie.MeasureT-loop
 loop-holds : tie.Need-loop-holds Inv-loop μ-loop
 loop-holds c = refl
 
-entry-ok-requires : tie.Need-entry-ok-requires Inv-loop μ-loop
-entry-ok-requires c κs = search needs
-
 returns : tie.Need-returns Inv-loop μ-loop
 unfolding entriesOk
 returns c =
@@ -26,21 +23,6 @@ returns c =
     let s = walk-step (λ k. entriesOk k (l .h .now) (l .d .now)) (l .left) (c .before .before .loop-test .taken) in
     let e = sym (c .before .entry-ok .ensures) ∙ not-true _ (c .if1 .taken) in
     sym (l .inv ∙ s ∙ simp e)
-
-entry-size-requires : tie.Need-entry-size-requires Inv-loop μ-loop
-entry-size-requires c κs = search needs
-
-rest-requires : tie.Need-rest-requires Inv-loop μ-loop
-rest-requires c κs = search needs
-
-after-header-requires : tie.Need-after-header-requires Inv-loop μ-loop
-after-header-requires c κs = search needs
-
-sub-left : tie.Need-sub-left Inv-loop μ-loop
-sub-left c = search needs
-
-loop-less : tie.Need-loop-less Inv-loop μ-loop
-loop-less c = search needs
 
 loop-again : tie.Need-loop-again Inv-loop μ-loop
 unfolding entriesOk
@@ -63,12 +45,12 @@ entries-ok-spec =
     Inv-loop
     μ-loop
     loop-holds
-    entry-ok-requires
+    (λ c κs. search needs)
     returns
-    entry-size-requires
-    rest-requires
-    after-header-requires
-    sub-left
-    loop-less
+    (λ c κs. search needs)
+    (λ c κs. search needs)
+    (λ c κs. search needs)
+    (λ c. search needs)
+    (λ c. search needs)
     loop-again
     returns-2)

@@ -5,20 +5,14 @@ use borrow.Author.Needs.{needs}
 use Rattle.metadata.proofs.section_parts.data_of.Statement.{statement}
 use Rattle.metadata.proofs.section_parts.data_of.Tie as tie
 
-index-count-requires : tie.Need-index-count-requires
-index-count-requires c κs = search needs
-
 mul-rest : tie.Need-mul-rest
 mul-rest c = omega (arith, beAt-lt 2 0 (c .before .before .args .section .now) (λ i. c .before .shared-slice-known .given i .fits))
 
 add-rest : tie.Need-add-rest
 add-rest c = omega (arith, beAt-lt 2 0 (c .before .before .args .section .now) (λ i. c .before .shared-slice-known .given i .fits))
 
-rest-requires : tie.Need-rest-requires
-rest-requires c κs = search needs
-
 returns : tie.Need-returns
 returns c = simp (c .rest .ensures, c .before .index-count .ensures)
 
 pub data-of-spec : {M : Type 1} → statement M
-data-of-spec = tie.close (tie.spec index-count-requires mul-rest add-rest rest-requires returns)
+data-of-spec = tie.close (tie.spec (λ c κs. search needs) mul-rest add-rest (λ c κs. search needs) returns)

@@ -2,6 +2,7 @@
 use mathlib.Core.Path.{sym, ap, ap₂, _∙_}
 use borrow.Author.Tests.{not-true, not-false}
 use borrow.Author.Needs.{needs}
+use Rattle.panel.specs.declared.Counted.{Counted}
 use Rattle.panel.specs.Tiles.{labelOf, valueOf}
 use Rattle.panel.proofs.Laws.Calls.{label-unknown, label-done}
 use Rattle.panel.proofs.Panel.count_by_label.Statement.{statement}
@@ -16,22 +17,6 @@ device-name-requires c κs = search needs
 label-of-requires : tie.Need-label-of-requires
 label-of-requires c κs = search needs
 
-has-requires : tie.Need-has-requires
-has-requires c κs = search needs
-
-refused-call-requires : tie.Need-refused-call-requires
-refused-call-requires c κs = search needs
-
-returns : tie.Need-returns
-returns c =
-    let h = c .before .before .has in
-    let l = c .before .before .before .before in
-    let a = l .before .before .before .before .args in
-    c .refused-call .ensures
-    ∙ label-unknown (a .self) (a .clock) (a .bytes .now) (a .read)
-    _ (l .label-of .ensures ∙ ap₂ labelOf (l .before .before .type-text .ensures) (l .before .device-name .ensures))
-    (sym (h .ensures) ∙ not-true (h .result) (c .before .if1 .taken))
-
 content-requires : tie.Need-content-requires
 content-requires c κs = search needs
 
@@ -41,16 +26,28 @@ value-of-requires c κs = search needs
 count-for-all-requires : tie.Need-count-for-all-requires
 count-for-all-requires c κs = search needs
 
+refused-call-requires : tie.Need-refused-call-requires
+refused-call-requires c κs = search needs
+
+returns : tie.Need-returns
+returns c =
+    let w = c .before .before .before in
+    let l = w .before .before .before .before in
+    let a = l .before .before .before .before .args in
+    c .refused-call .ensures
+    ∙ label-unknown (a .self) (a .clock) (a .bytes .now) (a .read)
+    _ (l .label-of .ensures ∙ ap₂ labelOf (l .before .before .type-text .ensures) (l .before .device-name .ensures))
+    (sym (ap (λ (x : Counted). x .counts) (w .count-for-all .ensures)) ∙ not-true (w .count-for-all .result .counts) (c .before .if1 .taken))
+
 returns-2 : tie.Need-returns-2
 returns-2 c =
-    let d = c .before in
-    let h = d .before .before .before .before .has in
-    let l = d .before .before .before .before .before .before in
+    let w = c .before .before .before .before in
+    let l = w .before .before .before .before in
     let a = l .before .before .before .before .args in
     label-done (a .self) (a .clock) (a .bytes .now) (a .read)
     _ (l .label-of .ensures ∙ ap₂ labelOf (l .before .before .type-text .ensures) (l .before .device-name .ensures))
-    (sym (h .ensures) ∙ not-false (h .result) (d .before .before .before .if1 .left))
-    _ (d .before .value-of .ensures ∙ ap valueOf (d .before .before .content .ensures)) _ (d .count-for-all .ensures)
+    (sym (ap (λ (x : Counted). x .counts) (w .count-for-all .ensures)) ∙ not-false (w .count-for-all .result .counts) (c .before .before .if1 .left))
+    _ (w .before .before .value-of .ensures ∙ ap valueOf (w .before .before .before .content .ensures)) _ (ap (λ (x : Counted). x .tiles) (w .count-for-all .ensures))
 
 pub count-by-label-spec : {M : Type 1} → statement M
 count-by-label-spec =
@@ -59,10 +56,9 @@ count-by-label-spec =
     type-text-requires
     device-name-requires
     label-of-requires
-    has-requires
-    refused-call-requires
-    returns
     content-requires
     value-of-requires
     count-for-all-requires
+    refused-call-requires
+    returns
     returns-2)

@@ -14,22 +14,10 @@ Inv-loop layout stream at₀ step₀ at step = at + step ≤ length stream
 abbrev μ-loop : tie.MeasureT-loop
 μ-loop layout stream at₀ step₀ at step = length stream - at
 
-print-at-requires : tie.Need-print-at-requires Inv-loop μ-loop
-print-at-requires c κs = search needs
-
 loop-holds : tie.Need-loop-holds Inv-loop μ-loop
 loop-holds c =
     let a = c .before .before .args in
     omega (arith, c .print-at .ensures, step-within (a .layout) (drop 0 (a .stream .now)), length-drop 0 (a .stream .now))
-
-add-at : tie.Need-add-at Inv-loop μ-loop
-add-at c = search needs
-
-print-at-requires-2 : tie.Need-print-at-requires-2 Inv-loop μ-loop
-print-at-requires-2 c κs = search needs
-
-loop-less : tie.Need-loop-less Inv-loop μ-loop
-loop-less c = search needs
 
 loop-again : tie.Need-loop-again Inv-loop μ-loop
 loop-again c =
@@ -38,19 +26,16 @@ loop-again c =
     let at = l .at + l .step in
     omega (arith, c .print-at2 .ensures, step-within (a .layout) (drop at (a .stream .now)), length-drop at (a .stream .now))
 
-returns : tie.Need-returns Inv-loop μ-loop
-returns c = search needs
-
 pub print-steps-in-spec : {M : Type 1} → statement M
 print-steps-in-spec =
     tie.close
     (tie.spec
     Inv-loop
     μ-loop
-    print-at-requires
+    (λ c κs. search needs)
     loop-holds
-    add-at
-    print-at-requires-2
-    loop-less
+    (λ c. search needs)
+    (λ c κs. search needs)
+    (λ c. search needs)
     loop-again
-    returns)
+    (λ c. search needs))

@@ -2,7 +2,7 @@
 
 use super::fields::{
     accepted, be16, be64, is_text, part, put16, put64, put_text12, put_text20, read_field, refusal,
-    text_len, text_of, Checked,
+    text_len, Checked,
 };
 
 pub struct HeaderRead {
@@ -21,10 +21,6 @@ pub struct HeaderFields {
     pub time_stamp: u64,
     pub body_size: usize,
     pub crc: u64,
-}
-
-pub fn type_text(stream: &[u8]) -> &[u8] {
-    text_of(part(stream, 2, 12))
 }
 
 fn size_at(stream: &[u8]) -> usize {

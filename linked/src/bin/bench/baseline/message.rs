@@ -29,6 +29,7 @@ pub struct Answer {
 
 // ---- the body
 
+#[derive(Clone, Copy)]
 struct Places {
     id: u32,
     further_at: usize,
@@ -61,19 +62,15 @@ fn reserved_ok(layout: Layout, body: &[u8]) -> bool {
     }
 }
 
-fn is_extended(layout: Layout, body: &[u8]) -> bool {
-    if body.len() < 12 {
+fn is_extended(layout: Layout, body: &[u8], size: usize, metadata: usize) -> bool {
+    if body.len() < 12 || size < 12 || !reserved_ok(layout, body) {
         return false;
     }
-    let size = usize::from(be16(body, 0));
-    if size < 12 || !reserved_ok(layout, body) {
-        return false;
-    }
-    size + section_size(layout, body) <= body.len()
+    size + metadata <= body.len()
 }
 
-fn body_fault(layout: Layout, version: u16, body: &[u8]) -> u8 {
-    if version != 2 || is_extended(layout, body) {
+fn body_fault(layout: Layout, version: u16, body: &[u8], places: Places) -> u8 {
+    if version != 2 || is_extended(layout, body, places.content_at, places.metadata_len) {
         0
     } else {
         6
@@ -108,10 +105,10 @@ fn sections(layout: Layout, version: u16, body: &[u8]) -> Places {
     Places {
         id: id_of(layout, body),
         further_at: 12,
-        further_len: size - 12,
+        further_len: size.saturating_sub(12),
         content_at: size,
-        content_len: n - (size + metadata_len),
-        metadata_at: n - metadata_len,
+        content_len: n.saturating_sub(size + metadata_len),
+        metadata_at: n.saturating_sub(metadata_len),
         metadata_len,
     }
 }
@@ -141,7 +138,14 @@ fn check_contents(type_text: &[u8], content: &[u8], metadata: &[u8]) -> Checked 
     check_content(type_text, content)
 }
 
-fn check_body(layout: Layout, version: u16, crc: u64, type_text: &[u8], body: &[u8]) -> Checked {
+fn check_body(
+    layout: Layout,
+    version: u16,
+    crc: u64,
+    type_text: &[u8],
+    body: &[u8],
+    places: Places,
+) -> Checked {
     let fault = version_fault(version);
     if fault != 0 {
         return fields::refusal(fault);
@@ -149,11 +153,10 @@ fn check_body(layout: Layout, version: u16, crc: u64, type_text: &[u8], body: &[
     if crc64(body) != crc {
         return fields::refusal(5);
     }
-    let fault = body_fault(layout, version, body);
+    let fault = body_fault(layout, version, body, places);
     if fault != 0 {
         return fields::refusal(fault);
     }
-    let places = sections(layout, version, body);
     let metadata = part(body, places.metadata_at, places.metadata_len);
     let fault = index_fault(layout, version, body, metadata);
     if fault != 0 {
@@ -163,8 +166,7 @@ fn check_body(layout: Layout, version: u16, crc: u64, type_text: &[u8], body: &[
     check_contents(type_text, content, metadata)
 }
 
-fn accept(layout: Layout, header: HeaderRead, body: &[u8], clean: bool) -> Answer {
-    let places = sections(layout, header.version, body);
+fn accept(header: HeaderRead, places: Places, clean: bool) -> Answer {
     Answer {
         number: 0,
         step: 58 + header.body_size,
@@ -193,12 +195,13 @@ pub fn read(layout: Layout, stream: &[u8]) -> Answer {
         return refusal(1, 0);
     }
     let body = part(stream, 58, size);
-    let type_text = header::type_text(stream);
-    let checked = check_body(layout, header.version, header.crc, type_text, body);
+    let places = sections(layout, header.version, body);
+    let type_text = part(stream, 2, header.type_len);
+    let checked = check_body(layout, header.version, header.crc, type_text, body, places);
     if checked.number != 0 {
         return refusal(checked.number, 58 + size);
     }
-    accept(layout, header, body, checked.clean)
+    accept(header, places, checked.clean)
 }
 
 impl Answer {

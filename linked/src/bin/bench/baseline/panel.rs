@@ -121,8 +121,8 @@ fn relink(tile: Tile) -> Tile {
     }
 }
 
-fn count_for(tile: Tile, label: Label, clock: u64, value: Value) -> Tile {
-    if !is_tile(tile, label) {
+fn count_for(carries: bool, tile: Tile, clock: u64, value: Value) -> Tile {
+    if !carries {
         return tile;
     }
     Tile {
@@ -270,12 +270,18 @@ impl Panel {
 
     fn count_by_label(self, clock: u64, bytes: &[u8], read: message::Answer) -> CallResult {
         let label = label_of(read.type_text(bytes), read.device_name(bytes));
-        if !has(self.tiles, label) {
+        let value = value_of(read.content(bytes));
+        let mut counts = false;
+        let changed = self.tiles.map(|tile| {
+            let carries = is_tile(tile, label);
+            counts |= carries;
+            count_for(carries, tile, clock, value)
+        });
+        if !counts {
             return refused_call(self, 13);
         }
-        let value = value_of(read.content(bytes));
         let mut panel = self;
-        panel.tiles = self.tiles.map(|tile| count_for(tile, label, clock, value));
+        panel.tiles = changed;
         panel.link.clock = clock;
         CallResult { panel, number: 0 }
     }
