@@ -64,7 +64,7 @@ pub record CursorTheorems : Type 0 where
       ≡ record { number = number; left = 0; «type_at» = 0; «type_len» = 0; «name_at» = 0; «name_len» = 0; at = 0; len = 0; clean = mark }
   -- without a child the parts have no bytes (rule 5.6)
   pub empty : (s : List ℕ) (number : ℕ) (mark : Bool) → handedAt s (noChild number mark) ≡ record { type = []; name = []; content = [] }
-  -- a loop while a child is left ends: it begins unrefused, and each step leaves one child less, of any content and any cursor
+  -- a loop while a child is left ends: it begins unrefused, and each step leaves one child less, of any content and any cursor without a refusal
   pub begins : (s : List ℕ) → 0 < firstOf s .left → firstOf s .number ≡ 0
   pub counts-down : (s : List ℕ) (x : Cursor) → x .number ≡ 0 → (nextOf s x .number ≡ 0) × (nextOf s x .left ≡ x .left - 1)
   -- of any content, any cursor that is refused or has no child left stays
