@@ -47,13 +47,14 @@ pub record Examples : Type 0 where
   pub field-full : fieldOk (1 ∷ 127 ∷ []) ≡ true
   pub field-high : fieldOk (1 ∷ 128 ∷ 0 ∷ []) ≡ false
   pub field-resumed : fieldOk (1 ∷ 0 ∷ 1 ∷ []) ≡ false
-  -- fields read (rule 2.4): "A" and zeros, "AB" alone, no byte; a byte behind the 0: 255, 128, a text, the last one alone, behind no text
-  pub clean-fields : map fieldRead ((0x41 ∷ 0 ∷ 0 ∷ []) ∷ (0x41 ∷ 0x42 ∷ []) ∷ [] ∷ []) ≡ replicate 3 (record { ok = true; clean = true })
+  -- fields read (rule 2.4), with the length of the text: "A" and zeros, "AB" alone, no byte; a byte behind the 0: 255, 128, a text, the last one
+  -- alone, behind no text
+  pub clean-fields : map fieldRead ((0x41 ∷ 0 ∷ 0 ∷ []) ∷ (0x41 ∷ 0x42 ∷ []) ∷ [] ∷ []) ≡ map (λ n. record { ok = true; len = n; clean = true }) (1 ∷ 2 ∷ 0 ∷ [])
   pub unclean-fields : map fieldRead
       ((0x41 ∷ 0 ∷ 255 ∷ []) ∷ (0x41 ∷ 0 ∷ 128 ∷ 0 ∷ []) ∷ (0x41 ∷ 0 ∷ 0x42 ∷ 0 ∷ []) ∷ (0x41 ∷ 0 ∷ 0 ∷ 0 ∷ 1 ∷ []) ∷ (0 ∷ 0x41 ∷ []) ∷ [])
-      ≡ replicate 5 (record { ok = true; clean = false })
+      ≡ map (λ n. record { ok = true; len = n; clean = false }) (1 ∷ 1 ∷ 1 ∷ 1 ∷ 0 ∷ [])
   -- 128 or 255 before the 0
-  pub no-fields : map fieldRead ((0x41 ∷ 128 ∷ 0 ∷ []) ∷ (255 ∷ 0 ∷ 0 ∷ []) ∷ (0x41 ∷ 128 ∷ []) ∷ []) ≡ replicate 3 (record { ok = false; clean = false })
+  pub no-fields : map fieldRead ((0x41 ∷ 128 ∷ 0 ∷ []) ∷ (255 ∷ 0 ∷ 0 ∷ []) ∷ (0x41 ∷ 128 ∷ []) ∷ []) ≡ replicate 3 (record { ok = false; len = 0; clean = false })
   -- the rests begin with the first 0
   pub rests : map restOf ((0x41 ∷ 0 ∷ 0x42 ∷ 0 ∷ []) ∷ (0 ∷ 0x41 ∷ []) ∷ (0x41 ∷ 0x42 ∷ []) ∷ []) ≡ (0 ∷ 0x42 ∷ 0 ∷ []) ∷ (0 ∷ 0x41 ∷ []) ∷ [] ∷ []
   pub rest-written : fieldBytes 5 (0x41 ∷ 0x72 ∷ []) (0 ∷ 255 ∷ 1 ∷ []) ≡ 0x41 ∷ 0x72 ∷ 0 ∷ 255 ∷ 1 ∷ []

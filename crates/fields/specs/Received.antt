@@ -3,7 +3,7 @@
 use Prim.Native.Nat.{ℕ, _+_}
 use mathlib.Core.Path.{_≡_}
 use mathlib.Core.Logic.{_⊎_, _↔_}
-use mathlib.Core.Bool.{true, false}
+use mathlib.Core.Bool.{true, false, cond}
 use mathlib.Core.List.{List, [], _∷_, _++_}
 use lib.ListN.{length, drop, replicate}
 use Rattle.fields.specs.Bytes.{Bytes, sized}
@@ -35,15 +35,16 @@ pub record Fills (w : ℕ) (t r : List ℕ) : Type 0 where
 
 -- what the reader of a field says of it
 abbrev pub fieldRead : List ℕ → TextField
-fieldRead f = record { ok = textOk f; clean = fieldOk f }
+fieldRead f = record { ok = textOk f; len = cond (textOk f) (length (textOf f)) 0; clean = fieldOk f }
 
--- `read_field` accepts a field exactly when it is some text and some rest, and it is so for only one pair. It says clean exactly if the rest is
--- zeros, and never of a field that it does not accept. With these zeros it is the field of rule 2.2 with that text
+-- `read_field` accepts a field exactly when it is some text and some rest, and it is so for only one pair. It says how long that text is, and clean
+-- exactly if the rest is zeros; of a field that it does not accept it says neither. With these zeros it is the field of rule 2.2 with that text
 pub record ReceivedFields : Type 0 where
   pub accepted : (f : List ℕ) → Bytes f → fieldRead f .ok ≡ true → Fills (length f) (textOf f) (restOf f)
   pub parts : (f : List ℕ) → textOf f ++ restOf f ≡ f
   pub passed : (t r : List ℕ) → Text t → Rest r → fieldRead (t ++ r) .ok ≡ true
   pub only : (t r : List ℕ) → Text t → Rest r → (textOf (t ++ r) ≡ t) × (restOf (t ++ r) ≡ r)
   pub mark : (t r : List ℕ) → Text t → Rest r → (fieldRead (t ++ r) .clean ≡ true) ↔ (r ≡ zeroed r)
-  pub no-mark : (f : List ℕ) → fieldRead f .ok ≡ false → fieldRead f .clean ≡ false
+  pub long : (t r : List ℕ) → Text t → Rest r → fieldRead (t ++ r) .len ≡ length t
+  pub refused : (f : List ℕ) → fieldRead f .ok ≡ false → fieldRead f ≡ record { ok = false; len = 0; clean = false }
   pub cleaned : (w : ℕ) (t r : List ℕ) → Fills w t r → t ++ zeroed r ≡ textBytes w t

@@ -9,9 +9,13 @@ use lib.ListN.{length}
 use Rattle.fields.specs.Bytes.{sized}
 use Rattle.fields.specs.Lists.{allOf, Each}
 
+-- the bytes of a text are below this, and none is 0
+abbrev pub textLimit : ℕ
+textLimit = 128
+
 -- may the byte stand in a text?
 abbrev pub textByte : ℕ → Bool
-textByte b = ltb 0 b && ltb b 128
+textByte b = ltb 0 b && ltb b textLimit
 
 -- is it a text: bytes 1 to 127 and nothing else? Names and keys are texts
 unfoldable pub isText : List ℕ → Bool

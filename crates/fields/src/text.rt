@@ -5,10 +5,14 @@ ghost use lib.Seq.{sets};
 ghost use Rattle.fields.specs.Text.{isText, textOf, pastText, allZero, textBytes};
 ghost use Rattle.fields.specs.Received.{fieldRead};
 
-// What a text field is: do bytes 1 to 127 stand before its first 0 (rule 2.4), and are there only zeros from that 0 on, so that it also keeps
-// rule 2.2? `clean` is false where `ok` is.
+// The bytes of a text are below this, and none is 0.
+const TEXT_LIMIT: u8 = 128;
+
+// What a text field is: do bytes 1 to 127 stand before its first 0 (rule 2.4), how many, and are there only zeros from that 0 on, so that
+// it also keeps rule 2.2? Where `ok` is false, `len` is 0 and `clean` is false.
 pub struct TextField {
     pub ok: bool,
+    pub len: usize,
     pub clean: bool,
 }
 
@@ -22,7 +26,7 @@ pub fn is_text(t: &[u8]) -> bool
         if b == 0 {
             return false;
         }
-        if 128 <= b {
+        if TEXT_LIMIT <= b {
             return false;
         }
         i += 1;
@@ -73,21 +77,33 @@ pub fn all_zero(s: &[u8]) -> bool
     true
 }
 
-// Reads the whole slice as a text field.
+// Reads the whole slice as a text field, each byte once.
 pub fn read_field(f: &[u8]) -> TextField
     ensures { λ r. ⌜ r ≡ fieldRead (now (f .entry)) ⌝ }
 {
-    let text = text_of(f);
-    if !is_text(text) {
-        return TextField {
-            ok: false,
-            clean: false,
-        };
+    let mut i = 0;
+    while i < f.len() {
+        let b = f[i];
+        if b == 0 {
+            return TextField {
+                ok: true,
+                len: i,
+                clean: all_zero(crate::slice::rest(f, i + 1)),
+            };
+        }
+        if TEXT_LIMIT <= b {
+            return TextField {
+                ok: false,
+                len: 0,
+                clean: false,
+            };
+        }
+        i += 1;
     }
-    // Not `past_text`, which would search for the first 0 again.
     TextField {
         ok: true,
-        clean: all_zero(crate::slice::rest(f, text.len() + 1)),
+        len: i,
+        clean: true,
     }
 }
 

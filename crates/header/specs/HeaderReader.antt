@@ -4,25 +4,23 @@ use mathlib.Core.Bool.{Bool, false, cond, _&&_}
 use mathlib.Core.List.{List}
 use lib.Dec.{eqb, leb}
 use lib.ListN.{length}
-use Rattle.fields.specs.declared.Checked.{Checked}
 use Rattle.fields.specs.Bytes.{part}
 use Rattle.fields.specs.Numbers.{beAt}
-use Rattle.fields.specs.Text.{textOf, allZero, textOk, fieldOk}
+use Rattle.fields.specs.Text.{textOf, allZero, textOk}
 use Rattle.fields.specs.Received.{restOf}
 use Rattle.fields.specs.Checks.{orElse}
-use Rattle.fields.specs.Answer.{checked}
 use Rattle.header.specs.declared.HeaderRead.{HeaderRead}
-use Rattle.header.specs.Header.{Header, limit}
+use Rattle.header.specs.Header.{headerSize, typeSize, nameSize, Header, limit}
 
 -- the header that stands at the front of these bytes
 unfoldable pub headerOf : List ℕ → Header
 headerOf s =
     record {
       version = beAt 2 0 s;
-      typeText = textOf (part 12 2 s);
-      typeRest = restOf (part 12 2 s);
-      deviceName = textOf (part 20 14 s);
-      nameRest = restOf (part 20 14 s);
+      typeText = textOf (part typeSize 2 s);
+      typeRest = restOf (part typeSize 2 s);
+      deviceName = textOf (part nameSize 14 s);
+      nameRest = restOf (part nameSize 14 s);
       timeStamp = beAt 8 34 s;
       bodySize = beAt 8 42 s;
       crc = beAt 8 50 s;
@@ -30,18 +28,11 @@ headerOf s =
 
 -- check 1 of the header: it has not arrived whole
 unfoldable pub shortFault : List ℕ → ℕ
-shortFault s = cond (leb 58 (length s)) 0 1
+shortFault s = cond (leb headerSize (length s)) 0 1
 
 -- check 2: TYPE or DEVICE_NAME breaks rule 2.4
 unfoldable pub textsFault : List ℕ → ℕ
-textsFault s = cond (textOk (part 12 2 s) && textOk (part 20 14 s)) 0 2
-
--- the mark: what stands after the two texts is zeros
-unfoldable pub textsClean : List ℕ → Bool
-textsClean s = fieldOk (part 12 2 s) && fieldOk (part 20 14 s)
-
-unfoldable pub textsChecked : List ℕ → Checked
-textsChecked s = checked (textsFault s) (textsClean s)
+textsFault s = cond (textOk (part typeSize 2 s) && textOk (part nameSize 14 s)) 0 2
 
 -- check 3: BODY_SIZE breaks rule 3.3
 unfoldable pub limitFault : ℕ → ℕ
@@ -50,17 +41,14 @@ limitFault n = cond (leb n limit) 0 3
 unfoldable pub headerFault : List ℕ → ℕ
 headerFault s = orElse (shortFault s) (orElse (textsFault s) (limitFault (headerOf s .bodySize)))
 
-unfoldable pub headerChecked : List ℕ → Checked
-headerChecked s = checked (headerFault s) (textsClean s)
-
--- what a header hands out with this mark
-abbrev pub handedWith : Header → Bool → HeaderRead
-handedWith h mark =
+-- what a header hands out with these lengths of its texts and this mark
+abbrev pub handedWith : Header → ℕ → ℕ → Bool → HeaderRead
+handedWith h type name mark =
     record {
       number = 0;
       version = h .version;
-      «type_len» = length (h .typeText);
-      «name_len» = length (h .deviceName);
+      «type_len» = type;
+      «name_len» = name;
       «time_stamp» = h .timeStamp;
       «body_size» = h .bodySize;
       crc = h .crc;
@@ -69,7 +57,7 @@ handedWith h mark =
 
 -- what an accepted header hands out, and a refused one
 abbrev pub handed : Header → HeaderRead
-handed h = handedWith h (allZero (h .typeRest) && allZero (h .nameRest))
+handed h = handedWith h (length (h .typeText)) (length (h .deviceName)) (allZero (h .typeRest) && allZero (h .nameRest))
 
 abbrev pub refused : ℕ → HeaderRead
 refused n =

@@ -10,12 +10,12 @@ use Rattle.fields.specs.Checks.{orElse}
 use Rattle.fields.specs.Writers.{writtenBy, outBy, WriterPromise}
 use Rattle.fields.specs.declared.Written.{Written}
 use Rattle.header.specs.declared.HeaderFields.{HeaderFields}
-use Rattle.header.specs.Header.{Header, encodeHeader}
+use Rattle.header.specs.Header.{typeSize, nameSize, Header, encodeHeader}
 use Rattle.header.specs.HeaderReader.{limitFault}
 
 -- check 2 of a writer: a name is no text that fits its field (rule 5.8)
 unfoldable pub namesFault : List ℕ → List ℕ → ℕ
-namesFault t n = cond (leb (length t) 12 && (leb (length n) 20 && (isText t && isText n))) 0 2
+namesFault t n = cond (leb (length t) typeSize && (leb (length n) nameSize && (isText t && isText n))) 0 2
 
 -- the header given to the writer: zeros after the texts
 abbrev pub given : HeaderFields → List ℕ → List ℕ → Header
@@ -23,9 +23,9 @@ given f t n =
     record {
       version = f .version;
       typeText = t;
-      typeRest = replicate (12 - length t) 0;
+      typeRest = replicate (typeSize - length t) 0;
       deviceName = n;
-      nameRest = replicate (20 - length n) 0;
+      nameRest = replicate (nameSize - length n) 0;
       timeStamp = f .«time_stamp»;
       bodySize = f .«body_size»;
       crc = f .crc;
@@ -35,8 +35,8 @@ given f t n =
 abbrev pub givenFields : HeaderFields → List ℕ → List ℕ → List (List ℕ)
 givenFields f t n =
     beBytes 2 (f .version)
-    ∷ textBytes 12 t
-    ∷ textBytes 20 n
+    ∷ textBytes typeSize t
+    ∷ textBytes nameSize n
     ∷ beBytes 8 (f .«time_stamp»)
     ∷ beBytes 8 (f .«body_size»)
     ∷ beBytes 8 (f .crc)

@@ -1,10 +1,8 @@
 // The header of a message (rule 3.1): 58 bytes, judged, read and written by themselves; and the two parts of a time stamp.
 pub mod time_stamp;
 
-use fields::Checked;
 use fields::Written;
 use fields::both;
-use fields::marked;
 use fields::number::be16;
 use fields::number::be64;
 use fields::number::put16;
@@ -15,13 +13,13 @@ use fields::text::is_text;
 use fields::text::put_text12;
 use fields::text::put_text20;
 use fields::text::read_field;
-use fields::text::text_len;
+ghost use mathlib.Core.Bool.{cond};
 ghost use mathlib.Core.Path.{_≡_};
 ghost use Rattle.fields.specs.Checks.{orElse};
 ghost use Rattle.fields.specs.Answer.{roomFault};
 ghost use Rattle.fields.specs.Layout.{stores};
 ghost use Rattle.header.specs.Header.{headerWidths};
-ghost use Rattle.header.specs.HeaderReader.{headerOf, textsChecked, limitFault, headerChecked, handedWith, refused, headerRead, typeIn, nameIn};
+ghost use Rattle.header.specs.HeaderReader.{headerOf, limitFault, handedWith, refused, headerRead, typeIn, nameIn};
 ghost use Rattle.header.specs.HeaderWriter.{namesFault, given, givenFields, HeaderPromise};
 
 // The size of a header (rule 3.1), that of its two text fields, and the largest BODY_SIZE (rule 3.3).
@@ -75,21 +73,6 @@ fn size_at(stream: &[u8]) -> usize
     be64(stream, 42) as usize
 }
 
-// 2 where TYPE or DEVICE_NAME breaks rule 2.4; and whether both are clean.
-fn check_texts(stream: &[u8]) -> Checked
-    ensures { λ r. ⌜ r ≡ textsChecked (now (stream .entry)) ⌝ }
-{
-    let type_field = read_field(part(stream, 2, TYPE_SIZE));
-    if !type_field.ok {
-        return marked(2, false);
-    }
-    let name_field = read_field(part(stream, 14, NAME_SIZE));
-    if !name_field.ok {
-        return marked(2, false);
-    }
-    marked(0, both(type_field.clean, name_field.clean))
-}
-
 // 3 for a BODY_SIZE that breaks rule 3.3.
 fn limit_fault(size: usize) -> u8
     ensures { λ r. ⌜ r ≡ limitFault size ⌝ }
@@ -100,18 +83,14 @@ fn limit_fault(size: usize) -> u8
     3
 }
 
-// Checks 1, 2 and 3, and the mark.
-fn check_header(stream: &[u8]) -> Checked
-    ensures { λ r. ⌜ r ≡ headerChecked (now (stream .entry)) ⌝ }
+// 2 where TYPE or DEVICE_NAME breaks rule 2.4, then 3.
+fn fields_fault(texts_ok: bool, body_size: usize) -> u8
+    ensures { λ r. ⌜ r ≡ orElse (cond «texts_ok» 0 2) (limitFault «body_size») ⌝ }
 {
-    if stream.len() < HEADER_SIZE {
-        return marked(1, false);
+    if !texts_ok {
+        return 2;
     }
-    let texts = check_texts(stream);
-    if texts.number != 0 {
-        return texts;
-    }
-    marked(limit_fault(size_at(stream)), texts.clean)
+    limit_fault(body_size)
 }
 
 // The answer of a refusal: its number, and all else 0.
@@ -130,15 +109,15 @@ fn refused(number: u8) -> HeaderRead
     }
 }
 
-// The answer for an accepted header with this mark.
-fn handed(stream: &[u8], clean: bool) -> HeaderRead
-    ensures { λ r. ⌜ r ≡ handedWith (headerOf (now (stream .entry))) clean ⌝ }
+// The answer for an accepted header, with the lengths of its texts and the mark.
+fn handed(stream: &[u8], type_len: usize, name_len: usize, clean: bool) -> HeaderRead
+    ensures { λ r. ⌜ r ≡ handedWith (headerOf (now (stream .entry))) «type_len» «name_len» clean ⌝ }
 {
     HeaderRead {
         number: 0,
         version: be16(stream, 0),
-        type_len: text_len(part(stream, 2, TYPE_SIZE)),
-        name_len: text_len(part(stream, 14, NAME_SIZE)),
+        type_len,
+        name_len,
         time_stamp: be64(stream, 34),
         body_size: size_at(stream),
         crc: be64(stream, 50),
@@ -146,15 +125,25 @@ fn handed(stream: &[u8], clean: bool) -> HeaderRead
     }
 }
 
-// Judges the front of a stream as a header, and hands out its fields.
+// Judges the front of a stream as a header, and hands out its fields. Each text field is read once.
 pub fn read_header(stream: &[u8]) -> HeaderRead
     ensures { λ r. ⌜ r ≡ headerRead (now (stream .entry)) ⌝ }
 {
-    let answer = check_header(stream);
-    if answer.number != 0 {
-        return refused(answer.number);
+    if stream.len() < HEADER_SIZE {
+        return refused(1);
     }
-    handed(stream, answer.clean)
+    let type_field = read_field(part(stream, 2, TYPE_SIZE));
+    let name_field = read_field(part(stream, 14, NAME_SIZE));
+    let fault = fields_fault(both(type_field.ok, name_field.ok), size_at(stream));
+    if fault != 0 {
+        return refused(fault);
+    }
+    handed(
+        stream,
+        type_field.len,
+        name_field.len,
+        both(type_field.clean, name_field.clean),
+    )
 }
 
 // 2 where these are no names for a writer (rule 5.8): texts of at most 12 bytes for TYPE and 20 for DEVICE_NAME.

@@ -1,23 +1,24 @@
 -- Text fields as they are received.
-use Prim.Native.Nat.{ℕ, zero, suc, _+_, _-_, _≤_}
-use mathlib.Core.Path.{_≡_, refl, sym, ap, _∙_}
+use Prim.Native.Nat.{ℕ, zero, suc, _+_, _-_, _<_, _≤_}
+use mathlib.Core.Path.{_≡_, refl, sym, ap, ap₂, _∙_}
 use mathlib.Core.Logic.{_⊎_, inl, inr, ⊎-elim}
 use mathlib.Core.Bool.{Bool, true, false, cond, _&&_}
 use mathlib.Core.List.{List, [], _∷_, _++_, append-nil}
 use native.Mathlib.Omega.{arith}
+use native.Mathlib.Numerals.{add-one}
 use lib.Dec.{eqb, leb}
-use lib.ListN.{length, drop, replicate, length-append, length-drop, length-replicate, take-append-drop}
-use lib.Seq.{drop-at}
+use lib.ListN.{length, getD, drop, replicate, length-append, length-drop, length-replicate, take-append-drop, drop-of-length-le}
+use lib.Seq.{drop-at, drop-cons}
 use borrow.Author.Tests.{eqb-true, ne-eqb, leb-true, leb-false}
 use Rattle.fields.specs.Lists.{allOf}
 use Rattle.fields.specs.Bytes.{Bytes, part, sized}
-use Rattle.fields.specs.Text.{Text, isText, textOf, pastText, allZero, textOk, textClean, fieldOk, textBytes}
+use Rattle.fields.specs.Text.{textLimit, textByte, Text, isText, textOf, pastText, allZero, textOk, textClean, fieldOk, textBytes}
 use Rattle.fields.specs.declared.text.TextField.{TextField}
 use Rattle.fields.specs.Received.{restOf, Rest, zeroed, fieldBytes, Fills, fieldRead, ReceivedFields}
 use Rattle.fields.proofs.Laws.Bytes.{sized-fits, length-sized, length-part, bytes-drop, bytes-part, bytes-nil, bytes-cons}
 use Rattle.fields.proofs.Laws.Checks.{and-split, and-join}
 use Rattle.fields.proofs.Laws.Tests.{by-test}
-use Rattle.fields.proofs.Laws.Text.{text-is, text-ok, text-take, length-textOf, text-ended, zeros-all, all-zeros}
+use Rattle.fields.proofs.Laws.Text.{text-byte, text-byte-high, text-is, text-ok, text-take, text-zero, text-more, length-textOf, text-ended, zeros-all, all-zeros}
 
 pub field-parts : (f : List ℕ) → textOf f ++ restOf f ≡ f
 field-parts f = ap (λ (x : List ℕ). x ++ restOf f) (text-take f) ∙ take-append-drop (length (textOf f)) f
@@ -102,14 +103,62 @@ fills-zeros w t r f = let e : w - length t ≡ length r = omega (arith, f .width
 
 -- ---- what the field reader says
 
-pub read-refused : (f : List ℕ) → textOk f ≡ false → fieldRead f ≡ record { ok = false; clean = false }
-unfolding fieldOk
-read-refused f e = ap {B = TextField} (λ (t : Bool). record { ok = t; clean = t && textClean f }) e
+-- by whether there is a text, its length, and whether zeros follow it
+abbrev said : Bool → ℕ → Bool → TextField
+said ok n zeros = record { ok = ok; len = cond ok n 0; clean = ok && zeros }
 
-pub read-passed : (f : List ℕ) → textOk f ≡ true → (mark : Bool) → mark ≡ textClean f → fieldRead f ≡ record { ok = true; clean = mark }
+pub read-refused : (f : List ℕ) → textOk f ≡ false → fieldRead f ≡ record { ok = false; len = 0; clean = false }
 unfolding fieldOk
-read-passed f e mark m =
-    ap {B = TextField} (λ (t : Bool). record { ok = t; clean = t && textClean f }) e ∙ ap {B = TextField} (λ (x : Bool). record { ok = true; clean = x }) (sym m)
+read-refused f e = ap (λ (t : Bool). said t (length (textOf f)) (textClean f)) e
+
+pub read-len : (f : List ℕ) → textOk f ≡ true → fieldRead f .len ≡ length (textOf f)
+read-len f e = ap (λ (t : Bool). cond t (length (textOf f)) 0) e
+
+-- of the bytes from place i on, where only bytes of a text stand before it
+abbrev pub fieldFrom : ℕ → List ℕ → TextField
+fieldFrom i f = said (textOk f) (i + length (textOf f)) (textClean f)
+
+by-text : (i : ℕ) (f t p : List ℕ) → (textOf f ≡ t) × (pastText f ≡ p) → fieldFrom i f ≡ said (isText t) (i + length t) (allZero p)
+unfolding textOk textClean
+by-text i f t p k = λ j. said (isText (k .0 j)) (i + length (k .0 j)) (allZero (k .1 j))
+
+pub from-start : (f : List ℕ) → fieldRead f ≡ fieldFrom 0 f
+unfolding fieldOk
+from-start f =
+    let z : length (textOf f) ≡ 0 + length (textOf f) = omega arith in
+    ap (λ (n : ℕ). said (textOk f) n (textClean f)) z
+
+-- the end, a 0, a byte above 127, a byte of a text
+pub from-end : (f : List ℕ) (i : ℕ) → length f ≤ i → fieldFrom i (drop i f) ≡ record { ok = true; len = i; clean = true }
+unfolding textOf pastText isText allZero allOf
+from-end f i h =
+    let z : i + 0 ≡ i = omega arith in
+    ap (fieldFrom i) (drop-of-length-le f h) ∙ by-text i [] [] [] (refl, refl) ∙ ap (λ (n : ℕ). said true n true) z
+
+module _ (f : List ℕ) (i : ℕ) (h : i < length f) where
+  pub from-zero : getD f i 0 ≡ 0 → (mark : Bool) → mark ≡ allZero (drop (i + 1) f) → fieldFrom i (drop i f) ≡ record { ok = true; len = i; clean = mark }
+  unfolding isText allOf
+  from-zero e mark m =
+      let z : i + 0 ≡ i = omega arith in
+      ap (fieldFrom i) (drop-cons f i 0 h)
+      ∙ by-text i _ [] (drop (suc i) f) (text-zero (getD f i 0) (drop (suc i) f) e)
+      ∙ ap₂ (said true) z (ap (λ (n : ℕ). allZero (drop n f)) (sym (add-one i)) ∙ sym m)
+
+  more : (getD f i 0 ≡ 0 → ⊥) → fieldFrom i (drop i f) ≡ said (textByte (getD f i 0) && textOk (drop (suc i) f)) (i + suc (length (textOf (drop (suc i) f)))) (textClean (drop (suc i) f))
+  unfolding isText allOf textOk textClean
+  more e = ap (fieldFrom i) (drop-cons f i 0 h) ∙ by-text i _ _ _ (text-more (getD f i 0) (drop (suc i) f) e)
+
+  pub from-high : textLimit ≤ getD f i 0 → fieldFrom i (drop i f) ≡ record { ok = false; len = 0; clean = false }
+  from-high e =
+      more (λ z. omega (arith, z))
+      ∙ ap (λ (t : Bool). said (t && textOk (drop (suc i) f)) (i + suc (length (textOf (drop (suc i) f)))) (textClean (drop (suc i) f))) (text-byte-high (getD f i 0) e)
+
+  pub from-next : (0 < getD f i 0) × (getD f i 0 < textLimit) → fieldFrom i (drop i f) ≡ fieldFrom (i + 1) (drop (i + 1) f)
+  from-next e =
+      let n : i + suc (length (textOf (drop (suc i) f))) ≡ i + 1 + length (textOf (drop (suc i) f)) = omega arith in
+      more (λ z. omega (arith, z, e .0))
+      ∙ ap₂ (λ (t : Bool) (k : ℕ). said (t && textOk (drop (suc i) f)) k (textClean (drop (suc i) f))) (text-byte (getD f i 0) e) n
+      ∙ ap (λ (k : ℕ). fieldFrom (i + 1) (drop k f)) (sym (add-one i))
 
 -- ---- in a field of w bytes
 
@@ -234,6 +283,7 @@ received-fields =
       passed = ok-is;
       only = λ t r h k. (field-text t r h k, field-rest t r h k);
       mark = λ t r h k. ((λ e. mark-to t r h k (and-split (textOk (t ++ r)) (textClean (t ++ r)) e .1)), (λ e. and-join (textOk (t ++ r)) (textClean (t ++ r)) (ok-is t r h k) (mark-from t r h k e)));
-      no-mark = λ f e. ap (λ (x : TextField). x .clean) (read-refused f e);
+      long = λ t r h k. read-len (t ++ r) (ok-is t r h k) ∙ ap length (field-text t r h k);
+      refused = read-refused;
       cleaned = cleaned-is;
     }

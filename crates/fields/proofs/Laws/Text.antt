@@ -11,7 +11,7 @@ use lib.Seq.{drop-cons, take-all}
 use borrow.Author.Tests.{eqb-true, eqb-false, leb-true, ltb-true, lt-ltb, le-ltb, ne-eqb, eq-eqb}
 use Rattle.fields.specs.Bytes.{part, sized}
 use Rattle.fields.specs.Lists.{allOf, Each}
-use Rattle.fields.specs.Text.{textByte, isText, Text, textOf, pastText, zeroByte, allZero, textOk, textClean, fieldOk, textBytes, TextFields}
+use Rattle.fields.specs.Text.{textLimit, textByte, isText, Text, textOf, pastText, zeroByte, allZero, textOk, textClean, fieldOk, textBytes, TextFields}
 use Rattle.fields.proofs.Laws.Bytes.{length-part, length-sized, sized-zero, sized-cons, sized-nil}
 use Rattle.fields.proofs.Laws.Checks.{and-split, and-join}
 use Rattle.fields.proofs.Laws.Lists.{all-each, each-all}
@@ -20,16 +20,16 @@ use Rattle.fields.proofs.Laws.Tests.{by-test}
 -- ---- texts
 
 byte-text : (b : ℕ) → textByte b ≡ true → (0 < b) × (b < 128)
-byte-text b h = let k = and-split (ltb 0 b) (ltb b 128) h in (ltb-true 0 b (k .0), ltb-true b 128 (k .1))
+byte-text b h = let k = and-split (ltb 0 b) (ltb b textLimit) h in (ltb-true 0 b (k .0), ltb-true b textLimit (k .1))
 
-pub text-byte : (b : ℕ) → (0 < b) × (b < 128) → textByte b ≡ true
-text-byte b h = and-join (ltb 0 b) (ltb b 128) (lt-ltb 0 b (h .0)) (lt-ltb b 128 (h .1))
+pub text-byte : (b : ℕ) → (0 < b) × (b < textLimit) → textByte b ≡ true
+text-byte b h = and-join (ltb 0 b) (ltb b textLimit) (lt-ltb 0 b (h .0)) (lt-ltb b textLimit (h .1))
 
 pub text-byte-low : (b : ℕ) → b ≡ 0 → textByte b ≡ false
-text-byte-low b h = ap (λ (x : Bool). x && ltb b 128) (le-ltb 0 b (omega arith))
+text-byte-low b h = ap (λ (x : Bool). x && ltb b textLimit) (le-ltb 0 b (omega arith))
 
-pub text-byte-high : (b : ℕ) → 128 ≤ b → textByte b ≡ false
-text-byte-high b h = ap (λ (x : Bool). ltb 0 b && x) (le-ltb b 128 h) ∙ and-false (ltb 0 b)
+pub text-byte-high : (b : ℕ) → textLimit ≤ b → textByte b ≡ false
+text-byte-high b h = ap (λ (x : Bool). ltb 0 b && x) (le-ltb b textLimit h) ∙ and-false (ltb 0 b)
 
 pub is-text : (t : List ℕ) → isText t ≡ true → Text t
 unfolding isText
@@ -59,11 +59,11 @@ all-zeros (suc n) = all-zeros n
 
 -- ---- the text of bytes, and what stands past it
 
-text-zero : (b : ℕ) (bs : List ℕ) → b ≡ 0 → (textOf (b ∷ bs) ≡ []) × (pastText (b ∷ bs) ≡ bs)
+pub text-zero : (b : ℕ) (bs : List ℕ) → b ≡ 0 → (textOf (b ∷ bs) ≡ []) × (pastText (b ∷ bs) ≡ bs)
 unfolding textOf pastText
 text-zero b bs h = (simp (eq-eqb b 0 h), simp (eq-eqb b 0 h))
 
-text-more : (b : ℕ) (bs : List ℕ) → (b ≡ 0 → ⊥) → (textOf (b ∷ bs) ≡ b ∷ textOf bs) × (pastText (b ∷ bs) ≡ pastText bs)
+pub text-more : (b : ℕ) (bs : List ℕ) → (b ≡ 0 → ⊥) → (textOf (b ∷ bs) ≡ b ∷ textOf bs) × (pastText (b ∷ bs) ≡ pastText bs)
 unfolding textOf pastText
 text-more b bs h = (simp (ne-eqb b 0 h), simp (ne-eqb b 0 h))
 

@@ -7,17 +7,16 @@ use lib.Dec.{leb}
 use lib.ListN.{length}
 use borrow.Author.Tests.{leb-true, le-leb, lt-leb, eq-eqb, ne-eqb}
 use Rattle.fields.specs.Bytes.{part}
-use Rattle.fields.specs.Text.{isText, allZero, textOk}
-use Rattle.fields.specs.Answer.{checked}
+use Rattle.fields.specs.Text.{isText, textOk, fieldOk}
+use Rattle.fields.specs.Received.{fieldRead}
 use Rattle.fields.specs.Checks.{orElse}
 use Rattle.fields.proofs.Laws.Checks.{cond-pass, cond-refused, and-split, and-join, zero-else, else-first, else-fault, else-second}
-use Rattle.fields.proofs.Laws.Answer.{checked-number, checked-mark, checked-same}
-use Rattle.fields.proofs.Laws.Received.{fieldOk-rest}
+use Rattle.fields.proofs.Laws.Received.{read-len, fieldOk-rest}
 use Rattle.fields.proofs.Laws.Tests.{by-zero}
 use Rattle.fields.proofs.Laws.Text.{is-text, text-is}
 use Rattle.header.specs.declared.HeaderRead.{HeaderRead}
 use Rattle.header.specs.Header.{WellTexts, limit}
-use Rattle.header.specs.HeaderReader.{headerOf, shortFault, textsFault, textsClean, textsChecked, limitFault, headerFault, headerChecked, handed, refused, headerRead}
+use Rattle.header.specs.HeaderReader.{headerOf, shortFault, textsFault, limitFault, headerFault, handedWith, handed, refused, headerRead}
 use Rattle.header.specs.HeaderWriter.{namesFault}
 
 -- ---- check 1
@@ -131,48 +130,6 @@ fault-texts s h k = fault-long s h ∙ else-first (textsFault s) (limitFault (he
 pub fault-limit : (s : List ℕ) → 58 ≤ length s → textsFault s ≡ 0 → headerFault s ≡ limitFault (headerOf s .bodySize)
 fault-limit s h k = fault-long s h ∙ else-second (textsFault s) (limitFault (headerOf s .bodySize)) k
 
--- ---- number and mark
-
-pub texts-number : (s : List ℕ) → textsChecked s .number ≡ textsFault s
-unfolding textsChecked
-texts-number s = checked-number (textsFault s) (textsClean s)
-
-pub texts-mark : (s : List ℕ) → textsFault s ≡ 0 → textsChecked s .clean ≡ textsClean s
-unfolding textsChecked
-texts-mark s e = checked-mark (textsFault s) (textsClean s) e
-
-pub texts-as : (s : List ℕ) (n : ℕ) (b : Bool) → textsFault s ≡ n → (n ≡ 0 → ⊥) → checked n b ≡ textsChecked s
-unfolding textsChecked
-texts-as s n b e k = checked-same n (textsFault s) b (textsClean s) (sym e) k
-
-pub texts-clean : (s : List ℕ) (b : Bool) → textsFault s ≡ 0 → b ≡ textsClean s → checked 0 b ≡ textsChecked s
-unfolding textsChecked
-texts-clean s b e m = ap₂ checked (sym e) m
-
-pub header-checked-number : (s : List ℕ) → headerChecked s .number ≡ headerFault s
-unfolding headerChecked
-header-checked-number s = checked-number (headerFault s) (textsClean s)
-
-pub header-as : (s : List ℕ) (n : ℕ) (b : Bool) → n ≡ headerFault s → (n ≡ 0 → ⊥) → checked n b ≡ headerChecked s
-unfolding headerChecked
-header-as s n b e k = checked-same n (headerFault s) b (textsClean s) e k
-
-pub header-clean : (s : List ℕ) (n : ℕ) (b : Bool) → n ≡ headerFault s → b ≡ textsClean s → checked n b ≡ headerChecked s
-unfolding headerChecked
-header-clean s n b e m = ap₂ checked e m
-
--- texts that are refused are the header's answer
-pub texts-stop : (s : List ℕ) → 58 ≤ length s → (textsFault s ≡ 0 → ⊥) → textsChecked s ≡ headerChecked s
-unfolding textsChecked
-texts-stop s h k = header-as s (textsFault s) (textsClean s) (sym (fault-long s h ∙ else-first (textsFault s) (limitFault (headerOf s .bodySize)) k)) k
-
--- of an accepted header the mark is that of the two rests
-pub rests-mark : (s : List ℕ) → headerFault s ≡ 0 → headerChecked s .clean ≡ (allZero (headerOf s .typeRest) && allZero (headerOf s .nameRest))
-unfolding headerChecked textsClean headerOf
-rests-mark s e =
-    let p = fault-passed s e in
-    checked-mark (headerFault s) (textsClean s) e ∙ ap₂ _&&_ (fieldOk-rest (part 12 2 s) (p .type-ok)) (fieldOk-rest (part 20 14 s) (p .name-ok))
-
 -- ---- what the reader hands out
 
 pub header-read-passed : (s : List ℕ) → headerFault s ≡ 0 → headerRead s ≡ handed (headerOf s)
@@ -185,9 +142,31 @@ unfolding headerRead
 header-read-refused s h =
     ap (λ (t : Bool). cond t (handed (headerOf s)) (refused (headerFault s))) (ne-eqb (headerFault s) 0 h)
 
+-- a refusal's answer is its number
+pub refused-with : (s : List ℕ) (n : ℕ) → headerFault s ≡ n → (n ≡ 0 → ⊥) → headerRead s ≡ refused n
+refused-with s n e k = header-read-refused s (λ z. k (sym e ∙ z)) ∙ ap refused e
+
 -- the number in its answer is the fault's
 pub header-read-number : (s : List ℕ) → headerRead s .number ≡ headerFault s
 header-read-number s =
     by-zero (headerFault s)
     (λ e. ap (λ (r : HeaderRead). r .number) (header-read-passed s e) ∙ sym e)
     (λ z. ap (λ (r : HeaderRead). r .number) (header-read-refused s z))
+
+-- ---- as the code has it: the two fields are read first
+
+pub read-fault : (s : List ℕ) → 58 ≤ length s → {ok : Bool} {size : ℕ} → ok ≡ (textOk (part 12 2 s) && textOk (part 20 14 s)) → size ≡ headerOf s .bodySize
+    → orElse (cond ok 0 2) (limitFault size) ≡ headerFault s
+unfolding textsFault
+read-fault s h ok size = ap₂ (λ (b : Bool) (n : ℕ). orElse (cond b 0 2) (limitFault n)) ok size ∙ sym (fault-long s h)
+
+-- of an accepted header the lengths are those of the texts, and the mark is that of the two rests
+pub read-handed : (s : List ℕ) → headerFault s ≡ 0 → {t n : ℕ} {mark : Bool} → t ≡ fieldRead (part 12 2 s) .len → n ≡ fieldRead (part 20 14 s) .len
+    → mark ≡ (fieldOk (part 12 2 s) && fieldOk (part 20 14 s)) → handedWith (headerOf s) t n mark ≡ headerRead s
+unfolding headerOf
+read-handed s h t n mark =
+    let p = fault-passed s h in
+    let type = t ∙ read-len (part 12 2 s) (p .type-ok) in
+    let name = n ∙ read-len (part 20 14 s) (p .name-ok) in
+    let clean = mark ∙ ap₂ _&&_ (fieldOk-rest (part 12 2 s) (p .type-ok)) (fieldOk-rest (part 20 14 s) (p .name-ok)) in
+    (λ i. handedWith (headerOf s) (type i) (name i) (clean i)) ∙ sym (header-read-passed s h)

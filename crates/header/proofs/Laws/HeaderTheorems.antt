@@ -22,7 +22,7 @@ use Rattle.header.specs.Header.{Header, WellTexts, HeaderFits, WellHeade
 use Rattle.header.specs.HeaderReader.{headerOf, textsFault, headerFault, handed, refused, headerRead, typeIn, nameIn}
 use Rattle.header.specs.HeaderWriter.{namesFault, given, givenFault, headerWritten, headerOut}
 use Rattle.header.specs.HeaderTheorems.{BeginsWith, TextsHeld, givenBack, HeaderTheorems}
-use Rattle.header.proofs.Laws.Faults.{texts-pass, texts-passed, names-pass, names-broken, limit-pass, limit-refused, fault-short, fault-texts, fault-limit, header-read-passed, header-read-refused}
+use Rattle.header.proofs.Laws.Faults.{texts-pass, texts-passed, names-pass, names-broken, limit-pass, limit-refused, fault-short, fault-texts, fault-limit, header-read-passed, header-read-refused, refused-with}
 use Rattle.header.proofs.Laws.Layout.{length-header, fits-texts, header-read, header-number, header-back, header-fits, type-part, name-part}
 use Rattle.header.proofs.Laws.Writer.{given-passes, out-header}
 
@@ -45,10 +45,6 @@ begun-fault s h w =
     ap headerFault (sym (w .bytes))
     ∙ header-number h (w .rest) (w .well .fits)
     ∙ limit-pass (h .bodySize) (w .well .size-limit)
-
--- a refusal's answer is its number
-refused-with : (s : List ℕ) (n : ℕ) → headerFault s ≡ n → (n ≡ 0 → ⊥) → headerRead s ≡ refused n
-refused-with s n e k = header-read-refused s (λ z. k (sym e ∙ z)) ∙ ap refused e
 
 -- check 2 passes exactly what holds two texts
 texts-held : (s : List ℕ) → textsFault s ≡ 0 → TextsHeld s

@@ -1,55 +1,63 @@
--- `fields::text::read_field` meets its contract: the two halves of the rule.
-use Prim.Native.Nat.{ℕ, _+_}
-use mathlib.Core.List.{List}
-use mathlib.Core.Path.{ap, sym, _∙_}
+-- `fields::text::read_field` meets its contract. The loop's invariant: the answer is that for the bytes from `i` on.
+use Prim.Native.Nat.{_-_}
+use mathlib.Core.Path.{_≡_, sym, ap, _∙_}
+use native.Mathlib.Omega.{arith}
 use lib.ListN.{length, drop}
-use borrow.Author.Tests.{not-true, not-false}
 use borrow.Author.Needs.{needs}
-use Rattle.fields.specs.Text.{textOk, textClean, isText, allZero}
-use Rattle.fields.proofs.Laws.Text.{past-drop}
-use Rattle.fields.proofs.Laws.Received.{read-refused, read-passed}
+use Rattle.fields.specs.Text.{allZero}
+use Rattle.fields.specs.Received.{fieldRead}
+use Rattle.fields.proofs.Laws.Received.{fieldFrom, from-start, from-end, from-zero, from-high, from-next}
 use Rattle.fields.proofs.text.read_field.Statement.{statement}
 use Rattle.fields.proofs.text.read_field.Tie as tie
 
-text-of-requires : tie.Need-text-of-requires
-text-of-requires c κs = search needs
+abbrev Inv-loop : tie.InvT-loop
+Inv-loop f i₀ i = fieldRead f ≡ fieldFrom i (drop i f)
 
-is-text-requires : tie.Need-is-text-requires
-is-text-requires c κs = search needs
+abbrev μ-loop : tie.MeasureT-loop
+μ-loop f i₀ i = length f - i
 
-returns : tie.Need-returns
-unfolding textOk
+loop-holds : tie.Need-loop-holds Inv-loop μ-loop
+loop-holds c = from-start _
+
+returns : tie.Need-returns Inv-loop μ-loop
 returns c =
-    let f = c .before .before .before .before .args .f .now in
-    let e = sym (c .before .is-text .ensures ∙ ap isText (c .before .before .text-of .ensures)) ∙ not-true (c .before .is-text .result) (c .if1 .taken) in
-    sym (read-refused f e)
+    let f = c .before .before .before .before .before .before .before .args .f .now in
+    let l = c .before .before .before .before .before .loop in
+    sym (l .inv ∙ from-zero f (l .i) (omega arith) (c .before .before .if1 .taken) _ (c .all-zero .ensures ∙ ap allZero (c .before .rest .ensures)))
 
-add-rest : tie.Need-add-rest
-add-rest c = search needs
-
-rest-requires : tie.Need-rest-requires
-rest-requires c κs = search needs
-
-all-zero-requires : tie.Need-all-zero-requires
-all-zero-requires c κs = search needs
-
-returns-2 : tie.Need-returns-2
-unfolding textOk textClean
+returns-2 : tie.Need-returns-2 Inv-loop μ-loop
 returns-2 c =
     let f = c .before .before .before .before .before .before .args .f .now in
-    let text = c .before .before .before .before .text-of .ensures in
-    let e = sym (c .before .before .before .is-text .ensures ∙ ap isText text) ∙ not-false (c .before .before .before .is-text .result) (c .before .before .if1 .left) in
-    let past = c .before .rest .ensures ∙ ap (λ (t : List ℕ). drop (length t + 1) f) text ∙ sym (past-drop f) in
-    sym (read-passed f e (c .all-zero .result) (c .all-zero .ensures ∙ ap allZero past))
+    let l = c .before .before .before .before .loop in
+    sym (l .inv ∙ from-high f (l .i) (omega arith) (c .if2 .taken))
+
+loop-again : tie.Need-loop-again Inv-loop μ-loop
+loop-again c =
+    let f = c .before .before .before .before .before .before .args .f .now in
+    let l = c .before .before .before .before .loop in
+    let p = c .before .if1 .left in
+    l .inv ∙ from-next f (l .i) (omega arith) (omega arith, c .if2 .left)
+
+returns-3 : tie.Need-returns-3 Inv-loop μ-loop
+returns-3 c =
+    let f = c .before .before .before .args .f .now in
+    let l = c .before .loop in
+    sym (l .inv ∙ from-end f (l .i) (omega arith))
 
 pub read-field-spec : {M : Type 1} → statement M
 read-field-spec =
     tie.close
     (tie.spec
-    text-of-requires
-    is-text-requires
+    Inv-loop
+    μ-loop
+    loop-holds
+    (λ c. search needs)
+    (λ c. search needs)
+    (λ c κs. search needs)
+    (λ c κs. search needs)
     returns
-    add-rest
-    rest-requires
-    all-zero-requires
-    returns-2)
+    returns-2
+    (λ c. search needs)
+    (λ c. search needs)
+    loop-again
+    returns-3)
