@@ -9,7 +9,6 @@ use Rattle.fields.specs.Bytes.{part}
 use Rattle.fields.specs.Numbers.{beAt}
 use Rattle.fields.specs.Tables.{itemsOk}
 use Rattle.fields.specs.Text.{textOf, pastText, allZero, textOk, fieldOk}
-use Rattle.fields.specs.declared.text.TextField.{TextField}
 use Rattle.fields.specs.declared.Checked.{Checked}
 use Rattle.fields.specs.Answer.{checked}
 
@@ -61,9 +60,9 @@ unfoldable pub typesClean : ℕ → List ℕ → Bool
 typesClean zero h = true
 typesClean (suc k) h = fieldOk (take 12 h) && typesClean k (drop 20 h)
 
--- what the reader of the CTYPEs says
-abbrev pub typesRead : ℕ → List ℕ → TextField
-typesRead n h = record { ok = typesOk n h; clean = typesClean n h }
+-- 10 where one is none, and the mark
+unfoldable pub typesChecked : ℕ → List ℕ → Checked
+typesChecked n h = checked (cond (typesOk n h) 0 10) (typesClean n h)
 
 -- a text, ended by a 0, stands in front
 unfoldable pub nameOk : List ℕ → Bool

@@ -4,14 +4,13 @@ use crate::bind_parts::CHILD_HEADER_SIZE;
 use crate::bind_parts::CTYPE_SIZE;
 use fields::Checked;
 use fields::marked;
-use fields::text::TextField;
 use fields::text::read_field;
 ghost use mathlib.Core.Path.{_≡_};
-ghost use Rattle.bind_layout.specs.BindLayout.{typesRead, nameOk, namesOk, tableOk, padOk, blockOk, dataOk, layoutChecked};
+ghost use Rattle.bind_layout.specs.BindLayout.{typesChecked, nameOk, namesOk, tableOk, padOk, blockOk, dataOk, layoutChecked};
 
-// Reads the CTYPEs of n headers: is each a text field, and is each clean?
-fn read_types(headers: &[u8], n: usize) -> TextField
-    ensures { λ r. ⌜ r ≡ typesRead n (now (headers .entry)) ⌝ }
+// 10 where one of the CTYPEs of n headers is no text field, and whether all are clean.
+fn check_types(headers: &[u8], n: usize) -> Checked
+    ensures { λ r. ⌜ r ≡ typesChecked n (now (headers .entry)) ⌝ }
 {
     let mut h = headers;
     let mut left = n;
@@ -19,10 +18,7 @@ fn read_types(headers: &[u8], n: usize) -> TextField
     while 0 < left {
         let field = read_field(fields::slice::first(h, CTYPE_SIZE));
         if !field.ok {
-            return TextField {
-                ok: false,
-                clean: false,
-            };
+            return marked(10, false);
         }
         let so_far = fields::both(clean, field.clean);
         clean = so_far;
@@ -30,7 +26,7 @@ fn read_types(headers: &[u8], n: usize) -> TextField
         h = next;
         left -= 1;
     }
-    TextField { ok: true, clean }
+    marked(0, clean)
 }
 
 // Does a name, ended by a 0, stand in front?
@@ -122,9 +118,9 @@ pub fn check_layout(content: &[u8]) -> Checked
     if content.len() < 4 + CHILD_HEADER_SIZE * n + table_size {
         return marked(10, false);
     }
-    let types = read_types(crate::bind_parts::headers(content), n);
-    if !types.ok {
-        return marked(10, false);
+    let types = check_types(crate::bind_parts::headers(content), n);
+    if types.number != 0 {
+        return types;
     }
     if !table_ok(crate::bind_parts::table_of(content), n) {
         return marked(10, false);

@@ -50,7 +50,7 @@ pub record HeaderTheorems : Type 0 where
   pub accepted : (s : List ℕ) → Bytes s → headerFault s ≡ 0 → BeginsWith s (headerOf s)
   pub begun : (s : List ℕ) (h : Header) → BeginsWith s h → headerRead s ≡ handed h
   pub texts : (s : List ℕ) (h : Header) → BeginsWith s h → (typeIn s (headerRead s) ≡ h .typeText) × (nameIn s (headerRead s) ≡ h .deviceName)
-  pub unique : (s : List ℕ) (g h : Header) → BeginsWith s g → BeginsWith s h → g ≡ h
+  pub only-one : (s : List ℕ) (g h : Header) → BeginsWith s g → BeginsWith s h → g ≡ h
   pub mark : (s : List ℕ) (h : Header) → BeginsWith s h → (headerRead s .clean ≡ true) ↔ CleanHeader h
   -- with its rests zeroed it is well formed and clean, and one that is clean already stays as it is
   pub meant : (h : Header) → WellHeader h → WellHeader (cleanedHeader h) × CleanHeader (cleanedHeader h)

@@ -138,12 +138,8 @@ pub fn read_header(stream: &[u8]) -> HeaderRead
     if fault != 0 {
         return refused(fault);
     }
-    handed(
-        stream,
-        type_field.len,
-        name_field.len,
-        both(type_field.clean, name_field.clean),
-    )
+    let clean = both(type_field.clean, name_field.clean);
+    handed(stream, type_field.len, name_field.len, clean)
 }
 
 // 2 where these are no names for a writer (rule 5.8): texts of at most 12 bytes for TYPE and 20 for DEVICE_NAME.

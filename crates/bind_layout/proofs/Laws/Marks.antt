@@ -10,12 +10,13 @@ use lib.ListN.{length, take, drop}
 use Rattle.fields.specs.Lists.{Each, flat}
 use Rattle.fields.specs.Text.{textOk, textClean, fieldOk}
 use Rattle.fields.specs.Answer.{checked}
-use Rattle.fields.proofs.Laws.Answer.{checked-mark, checked-false, checked-same}
-use Rattle.fields.proofs.Laws.Checks.{and-both}
+use Rattle.fields.proofs.Laws.Answer.{checked-number, checked-mark, checked-false, checked-same}
+use Rattle.fields.proofs.Laws.Checks.{and-both, cond-pass}
 use Rattle.fields.proofs.Laws.Lists.{flat-cons}
+use Rattle.fields.proofs.Laws.Tests.{by-test}
 use Rattle.fields.proofs.Laws.Walks.{walk-end, walk-step}
 use Rattle.bind_layout.specs.Children.{Child, childHeader, encodeChildren, WellChild, WellBundle, CleanChild}
-use Rattle.bind_layout.specs.BindLayout.{childCount, headers, tableSize, tableOf, dataOf, typesOk, typesClean, tableOk, dataOk, layoutOk, layoutFault, layoutChecked}
+use Rattle.bind_layout.specs.BindLayout.{childCount, headers, tableSize, tableOf, dataOf, typesOk, typesClean, typesChecked, tableOk, dataOk, layoutOk, layoutFault, layoutChecked}
 use Rattle.bind_layout.proofs.Laws.Children.{header-clean, header-rest}
 use Rattle.bind_layout.proofs.Laws.Written.{count-written, headers-written, layout-written}
 
@@ -44,6 +45,29 @@ module _ (k : ℕ) (h : List ℕ) (p : 0 < k) where
 
 -- ---- the answer
 
+-- of the CTYPEs
+pub types-answer : (k : ℕ) (h : List ℕ) {n : ℕ} {mark : Bool} → n ≡ cond (typesOk k h) 0 10 → mark ≡ typesClean k h → checked n mark ≡ typesChecked k h
+unfolding typesChecked
+types-answer k h e m = ap₂ checked e m
+
+pub types-number : (k : ℕ) (h : List ℕ) → typesChecked k h .number ≡ cond (typesOk k h) 0 10
+unfolding typesChecked
+types-number k h = checked-number (cond (typesOk k h) 0 10) (typesClean k h)
+
+pub types-passed : (k : ℕ) (h : List ℕ) → typesChecked k h .number ≡ 0 → (typesOk k h ≡ true) × (typesChecked k h .clean ≡ typesClean k h)
+unfolding typesChecked
+types-passed k h e =
+    let z = sym (types-number k h) ∙ e in
+    (cond-pass (typesOk k h) 9 0 z .0, checked-mark (cond (typesOk k h) 0 10) (typesClean k h) z)
+
+pub types-refused : (k : ℕ) (h : List ℕ) → (typesChecked k h .number ≡ 0 → ⊥) → (typesOk k h ≡ false) × (typesChecked k h ≡ checked 10 false)
+unfolding typesChecked
+types-refused k h e =
+    by-test (typesOk k h)
+    (λ t. absurd (e (types-number k h ∙ ap (λ (b : Bool). cond b 0 10) t)))
+    (λ t. (t, checked-same (cond (typesOk k h) 0 10) 10 (typesClean k h) false (ap (λ (b : Bool). cond b 0 10) t) (λ z. e (types-number k h ∙ z))))
+
+-- of the layout
 -- the layout's test, by the parts as the code has them: the headers are cut twice
 pub layout-by : (s : List ℕ) {n m : ℕ} {h t g d : List ℕ} → n ≡ childCount s → m ≡ tableSize s → h ≡ headers s → t ≡ tableOf s → g ≡ headers s → d ≡ dataOf s
     → layoutOk s ≡ (leb (4 + 20 * n + m) (length s) && (typesOk n h && (tableOk n t && dataOk n g d)))

@@ -178,7 +178,7 @@ header-theorems =
           let k = texts s (begun-fault s h w) in
           let e = begun-same s h w in
           (k .0 ∙ ap (λ (g : Header). g .typeText) e, k .1 ∙ ap (λ (g : Header). g .deviceName) e);
-      unique = λ s g h v w. sym (begun-same s g v) ∙ begun-same s h w;
+      only-one = λ s g h v w. sym (begun-same s g v) ∙ begun-same s h w;
       mark = λ s h w.
           let e = ap (λ (r : HeaderRead). r .clean) (header-read-passed s (begun-fault s h w) ∙ ap handed (begun-same s h w)) in
           ((λ c. rests-to h (sym e ∙ c)), (λ k. e ∙ rests-from h k));

@@ -6,10 +6,10 @@ use Prim.Native.Nat.{ℕ}
 use native.Mathlib.Omega.{arith}
 use borrow.Author.Tests.{le-leb, lt-leb, not-true, not-false}
 use borrow.Author.Needs.{needs}
-use Rattle.fields.specs.declared.text.TextField.{TextField}
+use Rattle.fields.specs.declared.Checked.{Checked}
 use Rattle.bind_layout.specs.BindLayout.{headers, tableSize, dataOf, typesClean, dataOk, layoutOk}
 use Rattle.fields.proofs.Laws.Numbers.{beAt-lt}
-use Rattle.bind_layout.proofs.Laws.Marks.{layout-by, layout-refused, layout-passed}
+use Rattle.bind_layout.proofs.Laws.Marks.{types-passed, types-refused, layout-by, layout-refused, layout-passed}
 use Rattle.bind_layout.proofs.layout_check.check_layout.Statement.{statement}
 use Rattle.bind_layout.proofs.layout_check.check_layout.Tie as tie
 
@@ -31,12 +31,15 @@ returns c =
 
 returns-2 : tie.Need-returns-2
 returns-2 c =
-    let a = c .before .before .before in
+    let a = c .before .before in
     let k = a .before .before .before in
     let s = k .before .before .before .before .args .content .now in
     let m : k .be16 .result ≡ tableSize s = cc in
-    let types = sym (ap (λ (x : TextField). x .ok) (a .read-types .ensures)) ∙ not-true _ (c .before .if2 .taken) in
-    c .marked2 .ensures
+    let e = a .check-types .ensures in
+    let stopped = types-refused _ _ (λ z. c .if2 .taken (ap (λ (x : Checked). x .number) e ∙ z)) in
+    let types = stopped .0 in
+    e
+    ∙ stopped .1
     ∙ sym (layout-refused s (layout-by s (k .before .before .child-count .ensures) m (a .before .headers .ensures) refl refl refl ∙ simp (le-leb _ _ (a .before .before .if1 .left), types)))
 
 -- with the name table looked at
@@ -49,12 +52,12 @@ by-table c g d p q =
     let k = a .before .before .before in
     let s = k .before .before .before .before .args .content .now in
     let m : k .be16 .result ≡ tableSize s = cc in
-    let types = sym (ap (λ (x : TextField). x .ok) (a .read-types .ensures)) ∙ not-false _ (c .before .before .if2 .left) in
+    let types = types-passed _ _ (sym (ap (λ (x : Checked). x .number) (a .check-types .ensures)) ∙ c .before .before .if2 .left) .0 in
     layout-by s (k .before .before .child-count .ensures) m (a .before .headers .ensures) (c .before .table-of .ensures) p q
     ∙ simp (le-leb _ _ (a .before .before .if1 .left), types, c .table-ok .ensures)
 
 returns-3 : tie.Need-returns-3
-returns-3 c = c .marked3 .ensures ∙ sym (layout-refused _ (by-table (c .before .before) _ _ refl refl ∙ simp (not-true (c .before .before .table-ok .result) (c .before .if3 .taken))))
+returns-3 c = c .marked2 .ensures ∙ sym (layout-refused _ (by-table (c .before .before) _ _ refl refl ∙ simp (not-true (c .before .before .table-ok .result) (c .before .if3 .taken))))
 
 -- and the data
 by-data : (c : tie.After-data-ok) → layoutOk (c .before .before .before .before .before .before .before .before .before .before .before .before .before .before .before .args .content .now) ≡ c .data-ok .result
@@ -63,14 +66,16 @@ by-data c =
     by-table (a .before) _ _ (c .before .before .headers2 .ensures) (c .before .data-of .ensures) ∙ (simp (not-false (a .before .table-ok .result) (a .if3 .left))) ∙ sym (c .data-ok .ensures)
 
 returns-4 : tie.Need-returns-4
-returns-4 c = c .marked4 .ensures ∙ sym (layout-refused _ (by-data (c .before .before) ∙ not-true _ (c .before .if4 .taken)))
+returns-4 c = c .marked3 .ensures ∙ sym (layout-refused _ (by-data (c .before .before) ∙ not-true _ (c .before .if4 .taken)))
 
 returns-5 : tie.Need-returns-5
 returns-5 c =
     let a = c .before .before .before .before .before .before .before .before .before .before in
     let n = a .before .before .before .before .before .child-count .ensures in
-    let mark = ap (λ (x : TextField). x .clean) (a .read-types .ensures) ∙ ap₂ typesClean n (a .before .headers .ensures) in
-    c .marked5 .ensures ∙ sym (layout-passed _ (by-data (c .before .before) ∙ not-false _ (c .before .if4 .left)) _ (sym mark))
+    let e = a .check-types .ensures in
+    let passed = types-passed _ _ (sym (ap (λ (x : Checked). x .number) e) ∙ c .before .before .before .before .before .before .before .before .if2 .left) in
+    let mark = ap (λ (x : Checked). x .clean) e ∙ passed .1 ∙ ap₂ typesClean n (a .before .headers .ensures) in
+    c .marked4 .ensures ∙ sym (layout-passed _ (by-data (c .before .before) ∙ not-false _ (c .before .if4 .left)) _ (sym mark))
 
 pub check-layout-spec : {M : Type 1} → statement M
 check-layout-spec =
@@ -85,7 +90,6 @@ check-layout-spec =
     add-if1-2
     (λ c κs. search needs)
     returns
-    (λ c κs. search needs)
     (λ c κs. search needs)
     (λ c κs. search needs)
     returns-2

@@ -1,6 +1,6 @@
--- `bind_layout::layout_check::read_types` meets its contract. The loop's invariant: the answer is that for the headers left, with the mark so far.
+-- `bind_layout::layout_check::check_types` meets its contract. The loop's invariant: the answer is that for the headers left, with the mark so far.
 use mathlib.Core.Path.{_≡_, refl, sym, ap, ap₂, _∙_}
-use mathlib.Core.Bool.{Bool, true, false, _&&_}
+use mathlib.Core.Bool.{Bool, true, false, cond, _&&_}
 use mathlib.Core.List.{List}
 use Prim.Native.Nat.{ℕ, _-_}
 use lib.ListN.{take}
@@ -10,13 +10,9 @@ use Rattle.fields.specs.Text.{textOk, fieldOk}
 use Rattle.fields.specs.declared.text.TextField.{TextField}
 use Rattle.fields.proofs.Laws.Checks.{and-assoc, and-true, and-false}
 use Rattle.bind_layout.specs.BindLayout.{typesOk, typesClean}
-use Rattle.bind_layout.proofs.Laws.Marks.{types-end, types-stop, types-next, clean-next, clean-stop}
-use Rattle.bind_layout.proofs.layout_check.read_types.Statement.{statement}
-use Rattle.bind_layout.proofs.layout_check.read_types.Tie as tie
-
--- an answer by its two parts
-answer : {a b c d : Bool} → a ≡ b → c ≡ d → _≡_ {A = TextField} (record { ok = a; clean = c }) (record { ok = b; clean = d })
-answer p q = λ i. record { ok = p i; clean = q i }
+use Rattle.bind_layout.proofs.Laws.Marks.{types-end, types-stop, types-next, clean-next, clean-stop, types-answer}
+use Rattle.bind_layout.proofs.layout_check.check_types.Statement.{statement}
+use Rattle.bind_layout.proofs.layout_check.check_types.Tie as tie
 
 abbrev Inv-loop : tie.InvT-loop
 Inv-loop headers n h₀ left₀ clean₀ h left clean = (typesOk n headers ≡ typesOk left h) × (typesClean n headers ≡ (clean && typesClean left h))
@@ -29,12 +25,13 @@ loop-holds c = (refl, refl)
 
 returns : tie.Need-returns Inv-loop μ-loop
 returns c =
-    let l = c .before .before .before .before .before .loop in
+    let l = c .before .before .before .before .before .before .loop in
     let h = l .h .now in
-    let p = c .before .before .before .before .loop-test .taken in
-    let f = ap (λ (x : TextField). x .ok) (c .before .before .read-field .ensures) ∙ ap textOk (c .before .before .before .first .ensures) in
-    let e : textOk (take 12 h) ≡ false = sym f ∙ not-true _ (c .if1 .taken) in
-    sym (answer (l .inv .0 ∙ types-stop (l .left) h p e) (l .inv .1 ∙ ap (λ (t : Bool). l .clean && t) (clean-stop (l .left) h p e) ∙ and-false (l .clean)))
+    let p = c .before .before .before .before .before .loop-test .taken in
+    let f = ap (λ (x : TextField). x .ok) (c .before .before .before .read-field .ensures) ∙ ap textOk (c .before .before .before .before .first .ensures) in
+    let e : textOk (take 12 h) ≡ false = sym f ∙ not-true _ (c .before .if1 .taken) in
+    let no = ap {B = ℕ} (λ (t : Bool). cond t 0 10) (l .inv .0 ∙ types-stop (l .left) h p e) in
+    c .marked .ensures ∙ types-answer _ _ (sym no) (sym (l .inv .1 ∙ ap (λ (t : Bool). l .clean && t) (clean-stop (l .left) h p e) ∙ and-false (l .clean)))
 
 loop-again : tie.Need-loop-again Inv-loop μ-loop
 loop-again c =
@@ -55,17 +52,19 @@ loop-again c =
 
 returns-2 : tie.Need-returns-2 Inv-loop μ-loop
 returns-2 c =
-    let l = c .before .loop in
-    let e = types-end (l .left) (l .h .now) (c .loop-test .left) in
-    sym (answer (l .inv .0 ∙ e .0) (l .inv .1 ∙ ap (λ (t : Bool). l .clean && t) (e .1) ∙ and-true (l .clean)))
+    let l = c .before .before .loop in
+    let e = types-end (l .left) (l .h .now) (c .before .loop-test .left) in
+    let yes = ap {B = ℕ} (λ (t : Bool). cond t 0 10) (l .inv .0 ∙ e .0) in
+    c .marked2 .ensures ∙ types-answer _ _ (sym yes) (sym (l .inv .1 ∙ ap (λ (t : Bool). l .clean && t) (e .1) ∙ and-true (l .clean)))
 
-pub read-types-spec : {M : Type 1} → statement M
-read-types-spec =
+pub check-types-spec : {M : Type 1} → statement M
+check-types-spec =
     tie.close
     (tie.spec
     Inv-loop
     μ-loop
     loop-holds
+    (λ c κs. search needs)
     (λ c κs. search needs)
     (λ c κs. search needs)
     returns
@@ -74,4 +73,5 @@ read-types-spec =
     (λ c. search needs)
     (λ c. search needs)
     loop-again
+    (λ c κs. search needs)
     returns-2)
