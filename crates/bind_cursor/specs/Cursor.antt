@@ -7,6 +7,7 @@ use lib.Dec.{eqb}
 use lib.ListN.{length, drop}
 use Rattle.fields.specs.Bytes.{part}
 use Rattle.fields.specs.Text.{textOf}
+use Rattle.bind_layout.specs.Children.{childHeaderSize}
 use Rattle.bind_layout.specs.BindLayout.{childCount, headers, afterHeaders, dataOf, typeOf, sizeOf, afterBlock}
 use Rattle.content.specs.ContentCheck.{bindFault, deepest}
 use Rattle.bind_lookup.specs.ChildLookup.{markOf}
@@ -53,7 +54,7 @@ nextOf s c =
     cond (eqb (c .number) 0)
     (cond (eqb (c .left) 0) c (childAt
     s
-    (drop 20 (drop (c .«type_at») s))
+    (drop childHeaderSize (drop (c .«type_at») s))
     (drop 1 (drop (c .«name_len») (drop (c .«name_at») s)))
     (afterBlock (c .len) (drop (c .at) s))
     (c .left - 1)

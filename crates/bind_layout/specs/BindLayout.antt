@@ -11,6 +11,7 @@ use Rattle.fields.specs.Tables.{itemsOk}
 use Rattle.fields.specs.Text.{textOf, pastText, allZero, textOk, fieldOk}
 use Rattle.fields.specs.declared.Checked.{Checked}
 use Rattle.fields.specs.Answer.{checked}
+use Rattle.bind_layout.specs.Children.{childHeaderSize, ctypeSize}
 
 -- N_CHILD
 abbrev pub childCount : List ℕ → ℕ
@@ -22,7 +23,7 @@ headers s = drop 2 s
 
 -- from NAME_TABLE_SIZE on
 abbrev pub afterHeaders : List ℕ → List ℕ
-afterHeaders s = drop (2 + 20 * childCount s) s
+afterHeaders s = drop (2 + childHeaderSize * childCount s) s
 
 -- NAME_TABLE_SIZE
 abbrev pub tableSize : List ℕ → ℕ
@@ -38,7 +39,7 @@ dataOf s = drop (2 + tableSize s) (afterHeaders s)
 
 -- the text of the first header's CTYPE
 abbrev pub typeOf : List ℕ → List ℕ
-typeOf h = textOf (take 12 h)
+typeOf h = textOf (take ctypeSize h)
 
 -- the first header's CSIZE
 abbrev pub sizeOf : List ℕ → ℕ
@@ -53,12 +54,12 @@ afterBlock n d = drop (n % 2) (drop n d)
 -- each CTYPE is a text field (rule 2.4)
 unfoldable pub typesOk : ℕ → List ℕ → Bool
 typesOk zero h = true
-typesOk (suc k) h = textOk (take 12 h) && typesOk k (drop 20 h)
+typesOk (suc k) h = textOk (take ctypeSize h) && typesOk k (drop childHeaderSize h)
 
 -- each CTYPE is clean (rule 2.2)
 unfoldable pub typesClean : ℕ → List ℕ → Bool
 typesClean zero h = true
-typesClean (suc k) h = fieldOk (take 12 h) && typesClean k (drop 20 h)
+typesClean (suc k) h = fieldOk (take ctypeSize h) && typesClean k (drop childHeaderSize h)
 
 -- 10 where one is none, and the mark
 unfoldable pub typesChecked : ℕ → List ℕ → Checked
@@ -87,11 +88,11 @@ blockOk n d = leb n (length d) && padOk (n % 2) (drop n d)
 
 -- the data of each child with its pad, that of the last one too, and nothing after it (rule 4.12)
 unfoldable pub dataOk : ℕ → List ℕ → List ℕ → Bool
-dataOk k h d = itemsOk 20 (λ h d. afterBlock (sizeOf h) d) (λ h d. blockOk (sizeOf h) d) (λ d. eqb (length d) 0) k h d
+dataOk k h d = itemsOk childHeaderSize (λ h d. afterBlock (sizeOf h) d) (λ h d. blockOk (sizeOf h) d) (λ d. eqb (length d) 0) k h d
 
 unfoldable pub layoutOk : List ℕ → Bool
 layoutOk s =
-    leb (4 + 20 * childCount s + tableSize s) (length s)
+    leb (4 + childHeaderSize * childCount s + tableSize s) (length s)
     && (typesOk (childCount s) (headers s)
     && (tableOk (childCount s) (tableOf s)
     && dataOk (childCount s) (headers s) (dataOf s)))

@@ -9,6 +9,13 @@ use Rattle.fields.specs.Text.{Text}
 use Rattle.fields.specs.Received.{fieldBytes, zeroed, Fills}
 use Rattle.fields.specs.Layout.{join}
 
+-- how many bytes a child's header has, and how many its CTYPE has (rule 4.9)
+abbrev pub childHeaderSize : ℕ
+childHeaderSize = 20
+
+abbrev pub ctypeSize : ℕ
+ctypeSize = 12
+
 -- a child: the text of its type and the rest of that field (rule 2.4), its name, and its content as bytes
 pub record Child : Type 0 where
   pub typeText : List ℕ
@@ -22,7 +29,7 @@ padded x = x ++ replicate (length x % 2) 0
 
 -- CTYPE, a text field, and CSIZE
 unfoldable pub childHeader : Child → List ℕ
-childHeader c = fieldBytes 12 (c .typeText) (c .rest) ++ beBytes 8 (length (c .content))
+childHeader c = fieldBytes ctypeSize (c .typeText) (c .rest) ++ beBytes 8 (length (c .content))
 
 -- a name of the table, ended by one 0
 abbrev pub ended : List ℕ → List ℕ
@@ -52,7 +59,7 @@ encodeChildren cs =
 
 -- type and name are texts, and the type and the size fit their fields. What the type asks of the content is not said here
 pub record WellChild (c : Child) : Type 0 where
-  pub type-fills : Fills 12 (c .typeText) (c .rest)
+  pub type-fills : Fills ctypeSize (c .typeText) (c .rest)
   pub name-text : Text (c .name)
   pub size-fits : length (c .content) < 256 ^ 8
 

@@ -9,7 +9,7 @@ ghost use mathlib.Core.Path.{_≡_};
 ghost use Rattle.bind_layout.specs.BindLayout.{typesChecked, nameOk, namesOk, tableOk, padOk, blockOk, dataOk, layoutChecked};
 
 // 10 where one of the CTYPEs of n headers is no text field, and whether all are clean.
-fn check_types(headers: &[u8], n: usize) -> Checked
+fn types_check(headers: &[u8], n: usize) -> Checked
     ensures { λ r. ⌜ r ≡ typesChecked n (now (headers .entry)) ⌝ }
 {
     let mut h = headers;
@@ -110,7 +110,7 @@ fn data_ok(headers: &[u8], blocks: &[u8], n: usize) -> bool
 }
 
 // 10 for each fault of the layout, or 0, and whether the CTYPEs are clean. A child's content is not looked at.
-pub fn check_layout(content: &[u8]) -> Checked
+pub fn layout_check(content: &[u8]) -> Checked
     ensures { λ r. ⌜ r ≡ layoutChecked (now (content .entry)) ⌝ }
 {
     let n = crate::bind_parts::child_count(content);
@@ -118,7 +118,7 @@ pub fn check_layout(content: &[u8]) -> Checked
     if content.len() < 4 + CHILD_HEADER_SIZE * n + table_size {
         return marked(10, false);
     }
-    let types = check_types(crate::bind_parts::headers(content), n);
+    let types = types_check(crate::bind_parts::headers(content), n);
     if types.number != 0 {
         return types;
     }

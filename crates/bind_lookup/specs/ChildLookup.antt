@@ -8,6 +8,7 @@ use lib.ListN.{length, drop}
 use Rattle.fields.specs.Bytes.{part, same}
 use Rattle.fields.specs.Text.{textOf, pastText}
 use Rattle.fields.specs.Checks.{orElse}
+use Rattle.bind_layout.specs.Children.{childHeaderSize}
 use Rattle.bind_layout.specs.BindLayout.{childCount, headers, tableOf, dataOf, typeOf, sizeOf, afterBlock}
 use Rattle.content.specs.ContentCheck.{bindFault, bindChecked, deepest}
 use Rattle.bind_lookup.specs.declared.ChildCount.{ChildCount}
@@ -17,7 +18,7 @@ use Rattle.bind_lookup.specs.declared.Place.{Place}
 
 -- the headers from child j's on
 abbrev pub headersFrom : ℕ → List ℕ → List ℕ
-headersFrom j s = drop (20 * j) (headers s)
+headersFrom j s = drop (childHeaderSize * j) (headers s)
 
 -- what is left of a name table t from name j on
 unfoldable pub namesFrom : ℕ → List ℕ → List ℕ
@@ -27,7 +28,7 @@ namesFrom (suc j) t = namesFrom j (pastText t)
 -- what is left of the data d from child j's on, by the headers h
 unfoldable pub dataFrom : ℕ → List ℕ → List ℕ → List ℕ
 dataFrom zero h d = d
-dataFrom (suc j) h d = dataFrom j (drop 20 h) (afterBlock (sizeOf h) d)
+dataFrom (suc j) h d = dataFrom j (drop childHeaderSize h) (afterBlock (sizeOf h) d)
 
 -- the index of the first of k names that is x, or k where none is (rule 4.13)
 unfoldable pub indexIn : ℕ → List ℕ → List ℕ → ℕ

@@ -7,6 +7,7 @@ use lib.ListN.{length, take, drop}
 use lib.Seq.{sets}
 use Rattle.fields.specs.Bytes.{part, same}
 use Rattle.fields.specs.Text.{textBytes}
+use Rattle.bind_layout.specs.Children.{childHeaderSize, ctypeSize}
 use Rattle.bind_layout.specs.BindLayout.{childCount, headers, afterHeaders, tableSize, dataOf, typeOf, sizeOf, afterBlock, layoutFault}
 use Rattle.content.specs.Kinds.{bindText}
 use Rattle.content.specs.ContentCheck.{deepest}
@@ -14,7 +15,7 @@ use Rattle.content.specs.ContentCheck.{deepest}
 -- the headers of k children: the text of CTYPE, zeros, CSIZE
 unfoldable pub cleanHeaders : ℕ → List ℕ → List ℕ
 cleanHeaders zero h = []
-cleanHeaders (suc k) h = textBytes 12 (typeOf h) ++ (part 8 12 h ++ cleanHeaders k (drop 20 h))
+cleanHeaders (suc k) h = textBytes ctypeSize (typeOf h) ++ (part 8 12 h ++ cleanHeaders k (drop childHeaderSize h))
 
 -- what stands before the data: N_CHILD, the headers, NAME_TABLE_SIZE and the table
 unfoldable pub cleanFront : List ℕ → List ℕ
@@ -29,7 +30,7 @@ unfoldable pub cleanDatas : (List ℕ → List ℕ) → ℕ → List ℕ → Lis
 cleanDatas bind zero h d = []
 cleanDatas bind (suc k) h d =
     cleanAs bind (typeOf h) (take (sizeOf h) d)
-    ++ (part (sizeOf h % 2) (sizeOf h) d ++ cleanDatas bind k (drop 20 h) (afterBlock (sizeOf h) d))
+    ++ (part (sizeOf h % 2) (sizeOf h) d ++ cleanDatas bind k (drop childHeaderSize h) (afterBlock (sizeOf h) d))
 
 -- a BIND where so many levels are left; one too deep, or not laid out as a BIND, stays as it is
 unfoldable pub cleanBind : ℕ → List ℕ → List ℕ

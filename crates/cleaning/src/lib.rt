@@ -66,7 +66,7 @@ fn put_bind(content: &[u8], levels: u32, at: usize, out: &mut [u8])
         fields::store::put(content, at, out);
         return;
     }
-    let layout = bind_layout::layout_check::check_layout(content);
+    let layout = bind_layout::layout_check::layout_check(content);
     if layout.number != 0 {
         fields::store::put(content, at, out);
         return;

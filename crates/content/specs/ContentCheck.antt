@@ -10,6 +10,7 @@ use Rattle.fields.specs.Answer.{checked}
 use Rattle.pose.specs.Transform.{transformFault}
 use Rattle.pose.specs.Position.{positionFault}
 use Rattle.image.specs.ImageReader.{imageFault}
+use Rattle.bind_layout.specs.Children.{childHeaderSize}
 use Rattle.bind_layout.specs.BindLayout.{childCount, headers, dataOf, typeOf, sizeOf, afterBlock, layoutFault, typesClean}
 use Rattle.content.specs.declared.Kind.{Kind}
 use Rattle.content.specs.declared.Kind.the-variants.{Transform, Position, Image, Bind, Other}
@@ -27,7 +28,7 @@ kindFault bind Other s = 0
 unfoldable pub childrenFault : (List ℕ → ℕ) → ℕ → List ℕ → List ℕ → ℕ
 childrenFault bind zero h d = 0
 childrenFault bind (suc k) h d =
-    orElse (kindFault bind (kindOf (typeOf h)) (take (sizeOf h) d)) (childrenFault bind k (drop 20 h) (afterBlock (sizeOf h) d))
+    orElse (kindFault bind (kindOf (typeOf h)) (take (sizeOf h) d)) (childrenFault bind k (drop childHeaderSize h) (afterBlock (sizeOf h) d))
 
 -- a BIND where so many levels are left (rule 5.4): 11 where none is, whatever its bytes; else its layout, then its children in order
 unfoldable pub bindFault : ℕ → List ℕ → ℕ
@@ -51,7 +52,7 @@ kindClean bind Other s = true
 unfoldable pub childrenClean : (List ℕ → Bool) → ℕ → List ℕ → List ℕ → Bool
 childrenClean bind zero h d = true
 childrenClean bind (suc k) h d =
-    kindClean bind (kindOf (typeOf h)) (take (sizeOf h) d) && childrenClean bind k (drop 20 h) (afterBlock (sizeOf h) d)
+    kindClean bind (kindOf (typeOf h)) (take (sizeOf h) d) && childrenClean bind k (drop childHeaderSize h) (afterBlock (sizeOf h) d)
 
 unfoldable pub bindClean : ℕ → List ℕ → Bool
 bindClean zero s = false

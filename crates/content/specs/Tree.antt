@@ -8,7 +8,7 @@ use Rattle.pose.specs.Words.{wordBytes}
 use Rattle.pose.specs.Transform.{WellTransform}
 use Rattle.pose.specs.Position.{WellPosition}
 use Rattle.image.specs.Image.{Image, WellImage, encodeImage}
-use Rattle.bind_layout.specs.Children.{Child, encodeChildren, WellBundle}
+use Rattle.bind_layout.specs.Children.{ctypeSize, Child, encodeChildren, WellBundle}
 use Rattle.content.specs.Kinds.{transformText, positionText, imageText, bindText}
 
 -- a TRANSFORM or a POSITION is its words, an IMAGE its header and pixels, a BIND its children, each with its name and with the rest of its
@@ -80,7 +80,7 @@ unfoldable mutual
 
   pub AllFill : Children → Type 0
   AllFill none = Unit {0}
-  AllFill (more rest name x cs) = Fills 12 (typeText x) rest × RestsFill x × AllFill cs
+  AllFill (more rest name x cs) = Fills ctypeSize (typeText x) rest × RestsFill x × AllFill cs
 
 -- the content with every rest zeroed
 unfoldable mutual

@@ -41,26 +41,26 @@ fn kind_of(type_text: &[u8]) -> Kind
 // The check of a content and the check of a BIND call each other (rule 9.1). The measure is twice the levels left and twice the bytes
 // left, and one more here, as this function hands on both as they are. A BIND hands a child one level less, and fewer bytes: its own four
 // bytes of counts are not part of any child.
-fn check_content(type_text: &[u8], content: &[u8], levels: u32) -> Checked
+fn nested_check(type_text: &[u8], content: &[u8], levels: u32) -> Checked
     ensures { λ r. ⌜ r ≡ contentChecked levels (now («type_text» .entry)) (now (content .entry)) ⌝ }
 {
     match kind_of(type_text) {
         Kind::Transform => marked(pose::transform_fault(content), true),
         Kind::Position => marked(pose::position_fault(content), true),
         Kind::Image => marked(image::image_fault(content), true),
-        Kind::Bind => check_bind(content, levels),
+        Kind::Bind => nested_bind_check(content, levels),
         Kind::Other => marked(0, true),
     }
 }
 
-// See check_content for the measure. The children are walked once, down what is left of the headers and of the data.
-fn check_bind(content: &[u8], levels: u32) -> Checked
+// See nested_check for the measure. The children are walked once, down what is left of the headers and of the data.
+fn nested_bind_check(content: &[u8], levels: u32) -> Checked
     ensures { λ r. ⌜ r ≡ bindChecked levels (now (content .entry)) ⌝ }
 {
     if levels == 0 {
         return marked(11, false);
     }
-    let layout = bind_layout::layout_check::check_layout(content);
+    let layout = bind_layout::layout_check::layout_check(content);
     if layout.number != 0 {
         return layout;
     }
@@ -70,7 +70,7 @@ fn check_bind(content: &[u8], levels: u32) -> Checked
     let mut clean = layout.clean;
     while 0 < left {
         let size = bind_layout::bind_parts::size_of(h);
-        let child = check_content(
+        let child = nested_check(
             bind_layout::bind_parts::type_of(h),
             fields::slice::first(d, size),
             levels - 1,
@@ -94,14 +94,14 @@ fn check_bind(content: &[u8], levels: u32) -> Checked
 pub fn content_check(type_text: &[u8], content: &[u8]) -> Checked
     ensures { λ r. ⌜ r ≡ contentChecked deepest (now («type_text» .entry)) (now (content .entry)) ⌝ }
 {
-    check_content(type_text, content, DEEPEST)
+    nested_check(type_text, content, DEEPEST)
 }
 
 // The same for a BIND content. It goes by the type, so that the check of a BIND has one caller.
 pub fn bind_check(content: &[u8]) -> Checked
     ensures { λ r. ⌜ r ≡ bindChecked deepest (now (content .entry)) ⌝ }
 {
-    check_content(b"BIND", content, DEEPEST)
+    nested_check(b"BIND", content, DEEPEST)
 }
 
 // The number alone.
@@ -116,7 +116,7 @@ pub fn content_fault(type_text: &[u8], content: &[u8]) -> u8
 pub fn nested_fault(type_text: &[u8], content: &[u8]) -> u8
     ensures { λ r. ⌜ r ≡ contentFault nestedLevels (now («type_text» .entry)) (now (content .entry)) ⌝ }
 {
-    let answer = check_content(type_text, content, NESTED_LEVELS);
+    let answer = nested_check(type_text, content, NESTED_LEVELS);
     answer.number
 }
 

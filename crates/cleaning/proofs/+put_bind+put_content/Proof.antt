@@ -23,7 +23,7 @@ use Rattle.cleaning.proofs.+put_bind+put_content.Lts-put_bind as put-bi
 use Rattle.cleaning.proofs.put_content.Reads as put-content
 use Rattle.cleaning.proofs.put_content.Kinds as put-content-kinds
 use Rattle.cleaning.proofs.+put_bind+put_content.Lts-put_content as put-content-lts
-use Rattle.bind_layout.proofs.layout_check.check_layout.Reads as check-layout-reads
+use Rattle.bind_layout.proofs.layout_check.layout_check.Reads as layout-check-reads
 use Rattle.bind_layout.proofs.bind_parts.after_block.Reads as after-block-reads
 use Rattle.bind_layout.proofs.bind_parts.child_count.Reads as count-reads
 use Rattle.bind_layout.proofs.bind_parts.data_of.Reads as data-of-reads
@@ -65,8 +65,8 @@ abbrev bind-claims : ℕ → put-bind-lts.Claims
 bind-claims t = (
   put-reads.Asked,
   put-reads.Learnt,
-  check-layout-reads.Asked,
-  check-layout-reads.Learnt,
+  layout-check-reads.Asked,
+  layout-check-reads.Learnt,
   put-front-reads.Asked,
   put-front-reads.Learnt,
   headers-reads.Asked,
@@ -123,8 +123,8 @@ put-bind-returns t c =
     let z = c .before .before .before .before .before .before .before .args in
     c .before .before .put .ensures ∙ ap (sets (z .out .now) (z .at)) (sym (bind-deep (z .levels) (z .content .now) (c .before .before .before .before .if1 .taken)))
 
-put-bind-check-layout-requires : (t : ℕ) → put-bind-lts.Need-check-layout-requires (bind-claims t) (put-bind-at t) put-bind.Post put-bind-Inv-loop put-bind-μ-loop
-put-bind-check-layout-requires t c κs = search needs
+put-bind-layout-check-requires : (t : ℕ) → put-bind-lts.Need-layout-check-requires (bind-claims t) (put-bind-at t) put-bind.Post put-bind-Inv-loop put-bind-μ-loop
+put-bind-layout-check-requires t c κs = search needs
 
 put-bind-put-requires-2 : (t : ℕ) → put-bind-lts.Need-put-requires-2 (bind-claims t) (put-bind-at t) put-bind.Post put-bind-Inv-loop put-bind-μ-loop
 put-bind-put-requires-2 t c κs = search needs
@@ -135,12 +135,12 @@ put-bind-same-length-2 t c = search needs
 put-bind-returns-2 : (t : ℕ) → put-bind-lts.Need-returns-2 (bind-claims t) (put-bind-at t) put-bind.Post put-bind-Inv-loop put-bind-μ-loop
 put-bind-returns-2 t c =
     let z = c .before .before .before .before .before .before .before .before .before .before .args in
-    let n = ap (λ (x : Checked). x .number) (c .before .before .before .before .before .before .check-layout .ensures) ∙ layout-number (z .content .now) in
+    let n = ap (λ (x : Checked). x .number) (c .before .before .before .before .before .before .layout-check .ensures) ∙ layout-number (z .content .now) in
     c .before .before .put2 .ensures ∙ ap (sets (z .out .now) (z .at)) (sym (bind-unlaid (z .levels) (z .content .now) (c .before .before .before .before .before .before .before .if1 .left) (λ q. c .before .before .before .before .if2 .taken (n ∙ q))))
 
 put-bind-put-front-requires : (t : ℕ) → put-bind-lts.Need-put-front-requires (bind-claims t) (put-bind-at t) put-bind.Post put-bind-Inv-loop put-bind-μ-loop
 put-bind-put-front-requires t c κs =
-    let n = ap (λ (x : Checked). x .number) (c .before .before .before .check-layout .ensures) ∙ layout-number (c .before .before .before .before .before .before .before .args .content .now) in
+    let n = ap (λ (x : Checked). x .number) (c .before .before .before .layout-check .ensures) ∙ layout-number (c .before .before .before .before .before .before .before .args .content .now) in
     (sym n ∙ c .before .if2 .left, c .before .before .before .before .before .before .before .pre .1)
 
 put-bind-headers-requires : (t : ℕ) → put-bind-lts.Need-headers-requires (bind-claims t) (put-bind-at t) put-bind.Post put-bind-Inv-loop put-bind-μ-loop
@@ -156,7 +156,7 @@ put-bind-loop-holds : (t : ℕ) → put-bind-lts.Need-loop-holds (bind-claims t)
 put-bind-loop-holds t c =
     let z = c .before .before .before .before .before .before .before .before .before .before .before .before .before .args in
     let s = z .content .now in
-    let n : layoutFault s ≡ 0 = sym (ap (λ (x : Checked). x .number) (c .before .before .before .before .before .before .before .before .before .check-layout .ensures) ∙ layout-number s) ∙ c .before .before .before .before .before .before .before .if2 .left in
+    let n : layoutFault s ≡ 0 = sym (ap (λ (x : Checked). x .number) (c .before .before .before .before .before .before .before .before .before .layout-check .ensures) ∙ layout-number s) ∙ c .before .before .before .before .before .before .before .if2 .left in
     let hs = c .before .before .headers .ensures in
     let ds = c .before .data-of .ensures in (
       refl,
@@ -246,7 +246,7 @@ put-bind-returns-3 t c =
     let z = c .before .before .before .before .before .before .before .before .before .before .before .before .before .before .before .args in
     let s = z .content .now in
     let g = c .before .loop in
-    let n : layoutFault s ≡ 0 = sym (ap (λ (x : Checked). x .number) (c .before .before .before .before .before .before .before .before .before .before .before .check-layout .ensures) ∙ layout-number s) ∙ c .before .before .before .before .before .before .before .before .before .if2 .left in
+    let n : layoutFault s ≡ 0 = sym (ap (λ (x : Checked). x .number) (c .before .before .before .before .before .before .before .before .before .before .before .layout-check .ensures) ∙ layout-number s) ∙ c .before .before .before .before .before .before .before .before .before .if2 .left in
     sym
     (bind-start (z .levels) s (z .out .now) _ _ _ (z .at) (c .before .before .child-count .result) (c .before .before .before .before .before .before .before .before .before .before .before .before .if1 .left) n (c .before .before .before .before .before .before .before .put-front .ensures) (c .before .before .before .before .headers .ensures) (c .before .before .before .data-of .ensures) (c .before .before .child-count .ensures)
     ∙ g .inv .0
@@ -289,7 +289,7 @@ pub +put-bind+put-content-spec : {M : Type 1} → statement M
     (put-bind-put-requires t)
     (put-bind-same-length t)
     (put-bind-returns t)
-    (put-bind-check-layout-requires t)
+    (put-bind-layout-check-requires t)
     (put-bind-put-requires-2 t)
     (put-bind-same-length-2 t)
     (put-bind-returns-2 t)

@@ -7,7 +7,7 @@ use Rattle.content.proofs.bind_check.Statement.{statement}
 use Rattle.content.proofs.bind_check.Tie as tie
 
 returns : tie.Need-returns
-returns c = c .check-content .ensures ∙ kind-bound _ _ _ kind-bind
+returns c = c .nested-check .ensures ∙ kind-bound _ _ _ kind-bind
 
 pub bind-check-spec : {M : Type 1} → statement M
 bind-check-spec = tie.close (tie.spec (λ c. search needs) (λ c κs. search needs) returns)

@@ -1,4 +1,4 @@
--- `bind_layout::layout_check::check_layout` meets its contract: the test made last decides, where those before it passed.
+-- `bind_layout::layout_check::layout_check` meets its contract: the test made last decides, where those before it passed.
 use mathlib.Core.Path.{_≡_, refl, sym, ap, ap₂, _∙_}
 use mathlib.Core.Bool.{_&&_}
 use mathlib.Core.List.{List}
@@ -10,8 +10,8 @@ use Rattle.fields.specs.declared.Checked.{Checked}
 use Rattle.bind_layout.specs.BindLayout.{headers, tableSize, dataOf, typesClean, dataOk, layoutOk}
 use Rattle.fields.proofs.Laws.Numbers.{beAt-lt}
 use Rattle.bind_layout.proofs.Laws.Marks.{types-passed, types-refused, layout-by, layout-refused, layout-passed}
-use Rattle.bind_layout.proofs.layout_check.check_layout.Statement.{statement}
-use Rattle.bind_layout.proofs.layout_check.check_layout.Tie as tie
+use Rattle.bind_layout.proofs.layout_check.layout_check.Statement.{statement}
+use Rattle.bind_layout.proofs.layout_check.layout_check.Tie as tie
 
 mul-if1 : tie.Need-mul-if1
 mul-if1 c = omega (arith, beAt-lt 2 0 (c .before .before .before .before .args .content .now) (λ i. c .before .before .before .shared-slice-known .given i .fits))
@@ -35,7 +35,7 @@ returns-2 c =
     let k = a .before .before .before in
     let s = k .before .before .before .before .args .content .now in
     let m : k .be16 .result ≡ tableSize s = cc in
-    let e = a .check-types .ensures in
+    let e = a .types-check .ensures in
     let stopped = types-refused _ _ (λ z. c .if2 .taken (ap (λ (x : Checked). x .number) e ∙ z)) in
     let types = stopped .0 in
     e
@@ -52,7 +52,7 @@ by-table c g d p q =
     let k = a .before .before .before in
     let s = k .before .before .before .before .args .content .now in
     let m : k .be16 .result ≡ tableSize s = cc in
-    let types = types-passed _ _ (sym (ap (λ (x : Checked). x .number) (a .check-types .ensures)) ∙ c .before .before .if2 .left) .0 in
+    let types = types-passed _ _ (sym (ap (λ (x : Checked). x .number) (a .types-check .ensures)) ∙ c .before .before .if2 .left) .0 in
     layout-by s (k .before .before .child-count .ensures) m (a .before .headers .ensures) (c .before .table-of .ensures) p q
     ∙ simp (le-leb _ _ (a .before .before .if1 .left), types, c .table-ok .ensures)
 
@@ -72,13 +72,13 @@ returns-5 : tie.Need-returns-5
 returns-5 c =
     let a = c .before .before .before .before .before .before .before .before .before .before in
     let n = a .before .before .before .before .before .child-count .ensures in
-    let e = a .check-types .ensures in
+    let e = a .types-check .ensures in
     let passed = types-passed _ _ (sym (ap (λ (x : Checked). x .number) e) ∙ c .before .before .before .before .before .before .before .before .if2 .left) in
     let mark = ap (λ (x : Checked). x .clean) e ∙ passed .1 ∙ ap₂ typesClean n (a .before .headers .ensures) in
     c .marked4 .ensures ∙ sym (layout-passed _ (by-data (c .before .before) ∙ not-false _ (c .before .if4 .left)) _ (sym mark))
 
-pub check-layout-spec : {M : Type 1} → statement M
-check-layout-spec =
+pub layout-check-spec : {M : Type 1} → statement M
+layout-check-spec =
     tie.close
     (tie.spec
     (λ c κs. search needs)

@@ -1,4 +1,4 @@
--- `bind_layout::layout_check::check_types` meets its contract. The loop's invariant: the answer is that for the headers left, with the mark so far.
+-- `bind_layout::layout_check::types_check` meets its contract. The loop's invariant: the answer is that for the headers left, with the mark so far.
 use mathlib.Core.Path.{_≡_, refl, sym, ap, ap₂, _∙_}
 use mathlib.Core.Bool.{Bool, true, false, cond, _&&_}
 use mathlib.Core.List.{List}
@@ -11,8 +11,8 @@ use Rattle.fields.specs.declared.text.TextField.{TextField}
 use Rattle.fields.proofs.Laws.Checks.{and-assoc, and-true, and-false}
 use Rattle.bind_layout.specs.BindLayout.{typesOk, typesClean}
 use Rattle.bind_layout.proofs.Laws.Marks.{types-end, types-stop, types-next, clean-next, clean-stop, types-answer}
-use Rattle.bind_layout.proofs.layout_check.check_types.Statement.{statement}
-use Rattle.bind_layout.proofs.layout_check.check_types.Tie as tie
+use Rattle.bind_layout.proofs.layout_check.types_check.Statement.{statement}
+use Rattle.bind_layout.proofs.layout_check.types_check.Tie as tie
 
 abbrev Inv-loop : tie.InvT-loop
 Inv-loop headers n h₀ left₀ clean₀ h left clean = (typesOk n headers ≡ typesOk left h) × (typesClean n headers ≡ (clean && typesClean left h))
@@ -57,8 +57,8 @@ returns-2 c =
     let yes = ap {B = ℕ} (λ (t : Bool). cond t 0 10) (l .inv .0 ∙ e .0) in
     c .marked2 .ensures ∙ types-answer _ _ (sym yes) (sym (l .inv .1 ∙ ap (λ (t : Bool). l .clean && t) (e .1) ∙ and-true (l .clean)))
 
-pub check-types-spec : {M : Type 1} → statement M
-check-types-spec =
+pub types-check-spec : {M : Type 1} → statement M
+types-check-spec =
     tie.close
     (tie.spec
     Inv-loop
