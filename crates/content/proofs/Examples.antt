@@ -6,8 +6,8 @@ use Rattle.fields.specs.Numbers.{beVal, beBytes}
 use Rattle.fields.specs.Text.{isText, textOf, pastText, allZero, textOk, textClean, fieldOk, textBytes}
 use Rattle.fields.specs.Received.{fieldBytes}
 use Rattle.fields.specs.Answer.{checked}
-use Rattle.pose.specs.Transform.{transformFault}
-use Rattle.pose.specs.Position.{countFault, positionFault}
+use Rattle.pose.specs.TransformReader.{transformFault}
+use Rattle.pose.specs.PositionReader.{countFault, positionFault}
 use Rattle.image.specs.ImageReader.{scalarSize, kindOk, headerOk, ruleFault, headerOf, imageFault}
 use Rattle.bind_layout.specs.Children.{padded, childHeader, childName, childData, nameTable, encodeChildren}
 use Rattle.bind_layout.specs.BindLayout.{typesOk, typesClean, nameOk, namesOk, tableOk, padOk, blockOk, dataOk, layoutOk, layoutFault}

@@ -7,8 +7,8 @@ use lib.ListN.{take, drop}
 use Rattle.fields.specs.Checks.{orElse}
 use Rattle.fields.specs.declared.Checked.{Checked}
 use Rattle.fields.specs.Answer.{checked}
-use Rattle.pose.specs.Transform.{transformFault}
-use Rattle.pose.specs.Position.{positionFault}
+use Rattle.pose.specs.TransformReader.{transformFault}
+use Rattle.pose.specs.PositionReader.{positionFault}
 use Rattle.image.specs.ImageReader.{imageFault}
 use Rattle.bind_layout.specs.Children.{childHeaderSize}
 use Rattle.bind_layout.specs.BindLayout.{childCount, headers, dataOf, typeOf, sizeOf, afterBlock, layoutFault, typesClean}

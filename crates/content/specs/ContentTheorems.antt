@@ -9,8 +9,8 @@ use mathlib.Core.List.{List, [], _∷_}
 use Rattle.fields.specs.Bytes.{Bytes}
 use Rattle.fields.specs.Checks.{orElse}
 use Rattle.fields.specs.Formats.{TwoWay}
-use Rattle.pose.specs.Transform.{transformFault}
-use Rattle.pose.specs.Position.{positionFault}
+use Rattle.pose.specs.TransformReader.{transformFault}
+use Rattle.pose.specs.PositionReader.{positionFault}
 use Rattle.image.specs.ImageReader.{imageFault}
 use Rattle.bind_layout.specs.Children.{Child, encodeChildren, WellBundle}
 use Rattle.bind_layout.specs.BundleTheorems.{IsBundle}

@@ -7,7 +7,7 @@ use mathlib.Core.List.{List, [], _++_}
 use native.Mathlib.Omega.{arith}
 use lib.Dec.{leb}
 use lib.ListN.{length, take, drop, length-drop}
-use borrow.Author.Tests.{leb-true, le-leb, lt-leb, eq-eqb, ne-eqb}
+use borrow.Author.Tests.{leb-true, le-leb, eq-eqb, ne-eqb}
 use Rattle.fields.specs.declared.Written.the-variants.{Wrote}
 use Rattle.fields.specs.Bytes.{Bytes}
 use Rattle.fields.specs.Checks.{orElse}
@@ -17,7 +17,7 @@ use Rattle.fields.specs.Writers.{writerFault, WriterTheorems}
 use Rattle.fields.proofs.Laws.Bytes.{bytes-drop}
 use Rattle.fields.proofs.Laws.Checks.{cond-pass, cond-refused}
 use Rattle.fields.proofs.Laws.Formats.{two-way}
-use Rattle.fields.proofs.Laws.Tests.{by-zero}
+use Rattle.fields.proofs.Laws.Tests.{by-zero, cond-yes}
 use Rattle.fields.proofs.Laws.Writers.{writer-passed, out-front, writer-theorems}
 use Rattle.image.specs.declared.ImageHeader.{ImageHeader}
 use Rattle.image.specs.declared.ImageRead.{ImageRead}
@@ -30,20 +30,13 @@ use Rattle.image.proofs.Rule.{rule-holds, rule-passes, rule-kept}
 
 -- ---- the check
 
-pub fault-short : (c : List ℕ) → length c < 72 → imageFault c ≡ 9
-unfolding imageFault
-fault-short c h = ap (λ (t : Bool). cond t (ruleFault (headerOf c) (length c - 72)) 9) (lt-leb 72 (length c) h)
-
-pub fault-long : (c : List ℕ) → 72 ≤ length c → imageFault c ≡ ruleFault (headerOf c) (length c - 72)
-unfolding imageFault
-fault-long c h = ap (λ (t : Bool). cond t (ruleFault (headerOf c) (length c - 72)) 9) (le-leb 72 (length c) h)
-
 -- what the reader's number is for the bytes of a header and pixels
 fault-encoded : (x : Image) → HeaderFits (x .header) → imageFault (encodeImage x) ≡ ruleFault (x .header) (length (x .pixels))
+unfolding imageFault
 fault-encoded x f =
     let n : length (encodeImage x) ≡ 72 + length (x .pixels) = length-image x in
     let left : length (encodeImage x) - 72 ≡ length (x .pixels) = omega (arith, n) in
-    fault-long (encodeImage x) (omega (arith, n)) ∙ ap₂ ruleFault (header-front x f) left
+    cond-yes (leb 72 (length (encodeImage x))) _ _ (le-leb 72 (length (encodeImage x)) (omega (arith, n))) ∙ ap₂ ruleFault (header-front x f) left
 
 -- an accepted content has a header that keeps the rule
 fault-none : (c : List ℕ) → imageFault c ≡ 0 → (72 ≤ length c) × (ruleFault (headerOf c) (length c - 72) ≡ 0)

@@ -39,7 +39,7 @@ headerNumbers h =
     ++ (three (h .offset)
     ++ three (h .«sub_size»)))))))
 
--- their widths: 72 bytes together
+-- their widths
 abbrev pub headerWidths : List ℕ
 headerWidths =
     2 ∷ 1 ∷ 1 ∷ 1 ∷ 1
@@ -51,6 +51,10 @@ headerWidths =
     ∷ 2 ∷ 2 ∷ 2
     ∷ 2 ∷ 2 ∷ 2
     ∷ []
+
+-- the bytes of a header: these widths together
+abbrev pub imageHeaderSize : ℕ
+imageHeaderSize = 72
 
 unfoldable pub encodeImage : Image → List ℕ
 encodeImage x = join (numberFields headerWidths (headerNumbers (x .header))) ++ x .pixels

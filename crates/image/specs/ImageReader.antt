@@ -7,7 +7,7 @@ use lib.ListN.{length, getD, drop}
 use Rattle.fields.specs.Numbers.{beAt}
 use Rattle.image.specs.declared.ImageHeader.{ImageHeader}
 use Rattle.image.specs.declared.ImageRead.{ImageRead}
-use Rattle.image.specs.Image.{along}
+use Rattle.image.specs.Image.{along, imageHeaderSize}
 
 -- ---- the check: 9 for any fault
 
@@ -69,7 +69,7 @@ headerOf c =
     }
 
 unfoldable pub imageFault : List ℕ → ℕ
-imageFault c = cond (leb 72 (length c)) (ruleFault (headerOf c) (length c - 72)) 9
+imageFault c = cond (leb imageHeaderSize (length c)) (ruleFault (headerOf c) (length c - imageHeaderSize)) 9
 
 -- ---- the reader: the number and the header, all zeros where refused; the pixels, none where refused
 
@@ -94,4 +94,4 @@ unfoldable pub imageOf : List ℕ → ImageRead
 imageOf c = record { number = imageFault c; header = cond (eqb (imageFault c) 0) (headerOf c) noHeader }
 
 unfoldable pub pixelsOf : List ℕ → List ℕ
-pixelsOf c = cond (eqb (imageFault c) 0) (drop 72 c) []
+pixelsOf c = cond (eqb (imageFault c) 0) (drop imageHeaderSize c) []

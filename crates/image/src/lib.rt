@@ -19,7 +19,7 @@ ghost use lib.ListN.{length, take, drop, replicate};
 ghost use Rattle.fields.specs.Layout.{numberFields, stores};
 ghost use Rattle.fields.specs.Checks.{orElse};
 ghost use Rattle.fields.specs.Answer.{roomFault};
-ghost use Rattle.image.specs.Image.{imageOfParts, three, headerNumbers, headerWidths, encodeImage};
+ghost use Rattle.image.specs.Image.{imageOfParts, three, headerNumbers, headerWidths, imageHeaderSize, encodeImage};
 ghost use Rattle.image.specs.ImageReader.{scalarSize, oneOrTwo, kindOk, within, directionOk, directionsOk, pixelBytes, ruleFault, headerOf, imageFault, noHeader, imageOf, pixelsOf};
 ghost use Rattle.image.specs.ImageWriter.{ImagePromise};
 
@@ -248,7 +248,7 @@ pub fn pixels(content: &[u8]) -> &[u8]
 }
 
 fn put_halves(a: [u16; 3], at: usize, out: &mut [u8])
-    requires { ⌜ at < 72 ⌝ }
+    requires { ⌜ at < imageHeaderSize ⌝ }
     ensures { λ _. ⌜ now (out .exit) ≡ stores (now (out .entry)) at (numberFields (2 ∷ 2 ∷ 2 ∷ []) (three a)) (2 ∷ 2 ∷ 2 ∷ []) ⌝ }
 {
     put16(a[0], at, out);
@@ -257,7 +257,7 @@ fn put_halves(a: [u16; 3], at: usize, out: &mut [u8])
 }
 
 fn put_words(a: [u32; 3], at: usize, out: &mut [u8])
-    requires { ⌜ at < 72 ⌝ }
+    requires { ⌜ at < imageHeaderSize ⌝ }
     ensures { λ _. ⌜ now (out .exit) ≡ stores (now (out .entry)) at (numberFields (4 ∷ 4 ∷ 4 ∷ []) (three a)) (4 ∷ 4 ∷ 4 ∷ []) ⌝ }
 {
     put32(a[0], at, out);
@@ -314,7 +314,7 @@ fn put_header(header: ImageHeader, out: &mut [u8])
 
 // 9, then 20. The length of the content is formed only where the rule bounds it.
 fn write_fault(header: ImageHeader, n: usize, room: usize) -> u8
-    ensures value { λ r. ⌜ r ≡ orElse (ruleFault header n) (roomFault (72 + n) room) ⌝ }
+    ensures value { λ r. ⌜ r ≡ orElse (ruleFault header n) (roomFault (imageHeaderSize + n) room) ⌝ }
     ensures bound { λ r. ⌜ (r ≡ 0 → n < 2 ^ 59) ⌝ }
 {
     let fault = rule_fault(header, n);

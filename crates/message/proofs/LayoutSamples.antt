@@ -16,7 +16,7 @@ use Rattle.header.specs.Header.{encodeHeader}
 use Rattle.header.specs.HeaderReader.{headerOf, shortFault, textsFault, limitFault, headerFault}
 use Rattle.header.specs.HeaderWriter.{namesFault}
 use Rattle.metadata.specs.MetadataCheck.{indexSizeIn, entryOk, entriesOk, sectionOk, metadataFault}
-use Rattle.pose.specs.Transform.{transformFault}
+use Rattle.pose.specs.TransformReader.{transformFault}
 use Rattle.content.specs.Kinds.{transformText, kindOf}
 use Rattle.content.specs.ContentCheck.{contentFault, contentClean}
 use Rattle.message.specs.declared.Layout.the-variants.{New}

@@ -21,7 +21,8 @@ use Rattle.header.specs.HeaderWriter.{namesFault}
 use Rattle.metadata.specs.Metadata.{encodeMetadata, WellMetadata}
 use Rattle.metadata.specs.MetadataCheck.{entryOk, entriesOk, sectionOk, metadataFault, indexSizeIn}
 use Rattle.pose.specs.Words.{wordBytes}
-use Rattle.pose.specs.Transform.{WellTransform, transformFault}
+use Rattle.pose.specs.Transform.{WellTransform}
+use Rattle.pose.specs.TransformReader.{transformFault}
 use Rattle.bind_layout.specs.Children.{padded, childHeader, childName, childData, nameTable, encodeChildren}
 use Rattle.bind_layout.specs.BindLayout.{typesOk, typesClean, nameOk, namesOk, tableOk, padOk, blockOk, dataOk, layoutOk, layoutFault}
 use Rattle.content.specs.Kinds.{transformText, bindText, kindOf}

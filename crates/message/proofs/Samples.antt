@@ -18,8 +18,9 @@ use Rattle.header.specs.HeaderWriter.{namesFault}
 use Rattle.metadata.specs.Metadata.{WellEntry, entryHeader, entryData, encodeMetadata, WellMetadata}
 use Rattle.metadata.specs.MetadataCheck.{entryOk, entriesOk, sectionOk, metadataFault, indexSizeIn}
 use Rattle.pose.specs.Words.{wordBytes}
-use Rattle.pose.specs.Transform.{transformFault}
-use Rattle.pose.specs.Position.{six, countFault, positionFault}
+use Rattle.pose.specs.TransformReader.{transformFault}
+use Rattle.pose.specs.Position.{six}
+use Rattle.pose.specs.PositionReader.{countFault, positionFault}
 use Rattle.content.specs.Kinds.{transformText, positionText, kindOf}
 use Rattle.content.specs.ContentCheck.{contentFault, contentClean}
 use Rattle.cleaning.specs.CleanBytes.{cleanBytes}

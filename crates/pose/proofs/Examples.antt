@@ -8,9 +8,9 @@ use Rattle.fields.specs.Numbers.{beVal, beBytes}
 use Rattle.fields.specs.Answer.{roomFault}
 use Rattle.fields.specs.Writers.{writtenBy, outBy}
 use Rattle.pose.specs.Words.{wordBytes}
-use Rattle.pose.specs.Transform.{transformFault, transformOf}
+use Rattle.pose.specs.TransformReader.{transformFault, transformOf}
 use Rattle.pose.specs.TransformTheorems.{ThreeWords}
-use Rattle.pose.specs.Position.{countFault, positionFault, positionOf}
+use Rattle.pose.specs.PositionReader.{countFault, positionFault, positionOf}
 use Rattle.pose.specs.Examples.{Examples}
 
 -- a small number and the two after it

@@ -23,10 +23,12 @@ use Rattle.fields.proofs.Laws.Formats.{two-way}
 use Rattle.fields.proofs.Laws.Lists.{length-flat}
 use Rattle.fields.proofs.Laws.Layout.{join-cut, cut-join, widths-numbers, numbers-back, numbers-front}
 use Rattle.fields.proofs.Laws.Stores.{sets-flat-next}
-use Rattle.fields.proofs.Laws.Tests.{by-zero, cond-cases, cond-yes}
+use Rattle.fields.proofs.Laws.Tests.{by-zero, cond-cases, cond-yes, cond-no}
 use Rattle.pose.specs.Words.{Words, wordBytes}
-use Rattle.pose.specs.Transform.{WellTransform, transformFault, transformAt, noTransform, transformOf}
-use Rattle.pose.specs.Position.{PositionCount, three, six, seven, WellPosition, isCount, countFault, positionFault, positionAt, positionOf}
+use Rattle.pose.specs.Transform.{WellTransform}
+use Rattle.pose.specs.TransformReader.{transformFault, transformAt, noTransform, transformOf}
+use Rattle.pose.specs.Position.{PositionCount, three, six, seven, WellPosition}
+use Rattle.pose.specs.PositionReader.{isCount, countFault, positionFault, somePosition, noPosition, positionOf}
 
 -- ---- words and their bytes
 
@@ -119,13 +121,11 @@ transform-format =
 -- the reader's answer for what is accepted
 pub transform-read : (c : List ℕ) → transformFault c ≡ 0 → transformOf c ≡ record { number = 0; transform = transformAt c }
 unfolding transformOf
-transform-read c h =
-    ap (λ (t : Bool). cond t (record { number = 0; transform = transformAt c }) (record { number = transformFault c; transform = noTransform })) (eq-eqb (transformFault c) 0 h)
+transform-read c h = cond-yes (eqb (transformFault c) 0) (record { number = 0; transform = transformAt c }) _ (eq-eqb (transformFault c) 0 h)
 
 pub transform-refused : (c : List ℕ) → (transformFault c ≡ 0 → ⊥) → transformOf c ≡ record { number = transformFault c; transform = noTransform }
 unfolding transformOf
-transform-refused c h =
-    ap (λ (t : Bool). cond t (record { number = 0; transform = transformAt c }) (record { number = transformFault c; transform = noTransform })) (ne-eqb (transformFault c) 0 h)
+transform-refused c h = cond-no (eqb (transformFault c) 0) _ (record { number = transformFault c; transform = noTransform }) (ne-eqb (transformFault c) 0 h)
 
 -- ---- POSITION
 
@@ -194,15 +194,13 @@ position-format =
     })
 
 -- the reader's answer for what is accepted
-pub position-read : (c : List ℕ) → positionFault c ≡ 0 → positionOf c ≡ record { number = 0; count = length c / 4; words = positionAt c }
+pub position-read : (c : List ℕ) → positionFault c ≡ 0 → positionOf c ≡ somePosition c
 unfolding positionOf
-position-read c h =
-    ap (λ (t : Bool). cond t (record { number = 0; count = length c / 4; words = positionAt c }) (record { number = positionFault c; count = 0; words = replicate 7 0 })) (eq-eqb (positionFault c) 0 h)
+position-read c h = cond-yes (eqb (positionFault c) 0) (somePosition c) _ (eq-eqb (positionFault c) 0 h)
 
-pub position-refused : (c : List ℕ) → (positionFault c ≡ 0 → ⊥) → positionOf c ≡ record { number = positionFault c; count = 0; words = replicate 7 0 }
+pub position-refused : (c : List ℕ) → (positionFault c ≡ 0 → ⊥) → positionOf c ≡ noPosition (positionFault c)
 unfolding positionOf
-position-refused c h =
-    ap (λ (t : Bool). cond t (record { number = 0; count = length c / 4; words = positionAt c }) (record { number = positionFault c; count = 0; words = replicate 7 0 })) (ne-eqb (positionFault c) 0 h)
+position-refused c h = cond-no (eqb (positionFault c) 0) _ (noPosition (positionFault c)) (ne-eqb (positionFault c) 0 h)
 
 -- ---- the writer's checks, as the code makes them
 

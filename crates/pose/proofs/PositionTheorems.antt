@@ -16,7 +16,9 @@ use Rattle.fields.proofs.Laws.Tests.{cond-cases}
 use Rattle.fields.proofs.Laws.Writers.{writer-passes, out-front, writer-theorems}
 use Rattle.pose.specs.declared.PositionRead.{PositionRead}
 use Rattle.pose.specs.Words.{wordBytes}
-use Rattle.pose.specs.Position.{PositionCount, three, six, seven, WellPosition, countFault, positionFault, positionAt, positionOf, positionWords, positionWritten, positionOut}
+use Rattle.pose.specs.Position.{PositionCount, three, six, seven, WellPosition}
+use Rattle.pose.specs.PositionReader.{countFault, positionFault, positionAt, positionOf, positionWords}
+use Rattle.pose.specs.PositionWriter.{positionWritten, positionOut}
 use Rattle.pose.specs.PositionTheorems.{PositionTheorems}
 use Rattle.pose.proofs.Laws.{length-wordBytes, words-read, words-back, count-passed, count-fault, words-in, position-count, position-well, position-format, position-read, position-refused}
 

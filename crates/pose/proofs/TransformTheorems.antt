@@ -17,7 +17,9 @@ use Rattle.fields.proofs.Laws.Writers.{writer-passes, out-front, writer-theorem
 use Rattle.pose.specs.declared.Transform.{Transform}
 use Rattle.pose.specs.declared.TransformRead.{TransformRead}
 use Rattle.pose.specs.Words.{wordBytes}
-use Rattle.pose.specs.Transform.{WellTransform, transformFault, transformAt, transformOf, transformWords, transformBytes, transformWritten, transformOut}
+use Rattle.pose.specs.Transform.{WellTransform, transformWords, transformBytes}
+use Rattle.pose.specs.TransformReader.{transformFault, transformAt, transformOf}
+use Rattle.pose.specs.TransformWriter.{transformWritten, transformOut}
 use Rattle.pose.specs.TransformTheorems.{Columns, TransformTheorems}
 use Rattle.pose.proofs.Laws.{length-wordBytes, words-read, words-back, words-append, transform-length, transform-well, transform-format, transform-read, transform-refused}
 

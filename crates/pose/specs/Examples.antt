@@ -5,9 +5,11 @@ use mathlib.Core.List.{List, [], _∷_, _++_, map}
 use lib.ListN.{take, replicate}
 use Rattle.fields.specs.declared.Written.the-variants.{Wrote, Refused}
 use Rattle.pose.specs.declared.Transform.{Transform}
-use Rattle.pose.specs.Transform.{transformFault, transformOf, transformWritten, transformOut}
+use Rattle.pose.specs.TransformReader.{transformFault, transformOf}
+use Rattle.pose.specs.TransformWriter.{transformWritten, transformOut}
 use Rattle.pose.specs.TransformTheorems.{Columns}
-use Rattle.pose.specs.Position.{positionFault, positionOf, positionWritten, positionOut}
+use Rattle.pose.specs.PositionReader.{positionFault, positionOf}
+use Rattle.pose.specs.PositionWriter.{positionWritten, positionOut}
 
 -- the bytes of the words 1 to 12
 abbrev pub twelveWords : List ℕ

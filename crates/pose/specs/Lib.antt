@@ -2,7 +2,11 @@
 
 pub mod Words
 pub mod Transform
+pub mod TransformReader
+pub mod TransformWriter
 pub mod Position
+pub mod PositionReader
+pub mod PositionWriter
 pub mod TransformTheorems
 pub mod PositionTheorems
 pub mod Examples

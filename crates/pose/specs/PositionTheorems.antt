@@ -10,7 +10,9 @@ use Rattle.fields.specs.Writers.{writerFault}
 use Rattle.fields.specs.declared.Written.{Written}
 use Rattle.fields.specs.declared.Written.the-variants.{Wrote}
 use Rattle.pose.specs.Words.{wordBytes}
-use Rattle.pose.specs.Position.{WellPosition, positionFault, positionOf, positionWords, positionWritten, positionOut, PositionPromise}
+use Rattle.pose.specs.Position.{WellPosition}
+use Rattle.pose.specs.PositionReader.{positionFault, positionOf, positionWords}
+use Rattle.pose.specs.PositionWriter.{positionWritten, positionOut, PositionPromise}
 
 pub record PositionTheorems : Type 0 where
   -- bytes are accepted exactly when they are those of some well formed words, and of only one such list; else they are 8

@@ -11,7 +11,9 @@ use Rattle.fields.specs.declared.Written.{Written}
 use Rattle.fields.specs.declared.Written.the-variants.{Wrote}
 use Rattle.pose.specs.declared.Transform.{Transform}
 use Rattle.pose.specs.Words.{Words, wordBytes}
-use Rattle.pose.specs.Transform.{WellTransform, transformFault, noTransform, transformOf, transformWords, transformBytes, transformWritten, transformOut, TransformPromise}
+use Rattle.pose.specs.Transform.{WellTransform, transformWords, transformBytes}
+use Rattle.pose.specs.TransformReader.{transformFault, noTransform, transformOf}
+use Rattle.pose.specs.TransformWriter.{transformWritten, transformOut, TransformPromise}
 
 -- a transform as the code holds one: three words in each column
 pub record ThreeWords (column : List ℕ) : Type 0 where

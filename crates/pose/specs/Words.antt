@@ -4,10 +4,14 @@ use mathlib.Core.List.{List}
 use Rattle.fields.specs.Lists.{Each, flat}
 use Rattle.fields.specs.Numbers.{beBytes}
 
+-- the bytes of a word
+abbrev pub wordSize : ℕ
+wordSize = 4
+
 -- every number is a word of 32 bits
 abbrev pub Words : List ℕ → Type 0
-Words ws = Each (λ w. w < 256 ^ 4) ws
+Words ws = Each (λ w. w < 256 ^ wordSize) ws
 
 -- the words, big endian, one after the other
 unfoldable pub wordBytes : List ℕ → List ℕ
-wordBytes ws = flat (beBytes 4) ws
+wordBytes ws = flat (beBytes wordSize) ws

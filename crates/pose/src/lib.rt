@@ -7,9 +7,11 @@ ghost use lib.ListN.{length};
 ghost use lib.Seq.{sets};
 ghost use Rattle.fields.specs.Checks.{orElse};
 ghost use Rattle.fields.specs.Answer.{roomFault};
-ghost use Rattle.pose.specs.Words.{wordBytes};
-ghost use Rattle.pose.specs.Transform.{transformFault, transformOf, transformBytes, TransformPromise};
-ghost use Rattle.pose.specs.Position.{countFault, positionFault, positionOf, PositionPromise};
+ghost use Rattle.pose.specs.Words.{wordSize, wordBytes};
+ghost use Rattle.pose.specs.TransformReader.{transformFault, transformOf};
+ghost use Rattle.pose.specs.TransformWriter.{TransformPromise};
+ghost use Rattle.pose.specs.PositionReader.{countFault, positionFault, positionOf};
+ghost use Rattle.pose.specs.PositionWriter.{PositionPromise};
 
 // The bytes of a TRANSFORM (rule 4.2).
 pub const TRANSFORM_SIZE: usize = 48;
@@ -190,7 +192,7 @@ pub fn read_position(content: &[u8]) -> PositionRead
 
 // The writer's checks for n words: 8, then 20.
 fn write_fault(n: usize, room: usize) -> u8
-    ensures { λ r. ⌜ r ≡ orElse (countFault n) (roomFault (4 * n) room) ⌝ }
+    ensures { λ r. ⌜ r ≡ orElse (countFault n) (roomFault (wordSize * n) room) ⌝ }
 {
     let fault = count_fault(n);
     if fault != 0 {

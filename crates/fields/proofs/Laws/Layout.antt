@@ -7,7 +7,7 @@ use native.Mathlib.Nat.{add-zero}
 use lib.ListN.{length, take, drop, length-append}
 use lib.Seq.{take-add, drop-drop, take-at, drop-at}
 use Rattle.fields.specs.Bytes.{Bytes, part}
-use Rattle.fields.specs.Numbers.{beVal}
+use Rattle.fields.specs.Numbers.{beVal, beAt}
 use Rattle.fields.specs.Layout.{total, join, cut, Widths, numbersAt, numberFields, NumbersFit}
 use Rattle.fields.proofs.Laws.Numbers.{length-beBytes, beVal-beBytes, beBytes-beAt}
 
@@ -50,8 +50,13 @@ cut-rest at off (w ∷ ws) s =
 
 -- ---- layouts of numbers alone
 
-pub numbers-rest : (at : ℕ) (ws s : List ℕ) → numbersAt 0 ws (drop at s) ≡ numbersAt at ws s
-numbers-rest at ws s = ap (map beVal) (cut-rest at 0 ws s ∙ ap (λ (k : ℕ). cut k ws s) (add-zero at))
+-- three numbers of n bytes, read in what is left from a place on
+pub three-read : (n at : ℕ) (s : List ℕ) {t : List ℕ} {x y z : ℕ} → t ≡ drop at s → x ≡ beAt n 0 t → y ≡ beAt n (0 + n) t → z ≡ beAt n (0 + n + n) t
+    → x ∷ y ∷ z ∷ [] ≡ numbersAt at (n ∷ n ∷ n ∷ []) s
+three-read n at s e p q r =
+    (λ i. p i ∷ q i ∷ r i ∷ [])
+    ∙ ap (numbersAt 0 (n ∷ n ∷ n ∷ [])) e
+    ∙ ap (map beVal) (cut-rest at 0 (n ∷ n ∷ n ∷ []) s ∙ ap (λ (k : ℕ). cut k (n ∷ n ∷ n ∷ []) s) (add-zero at))
 
 -- as many numbers as widths
 pub widths-numbers : (ws vs : List ℕ) → length ws ≡ length vs → Widths (numberFields ws vs) ws

@@ -1,7 +1,7 @@
 -- `pose::count_fault` meets its contract: each case by computation, and the last because no test holds.
 use mathlib.Core.Path.{sym, ap}
 use borrow.Author.Tests.{ne-eqb}
-use Rattle.pose.specs.Position.{countFault}
+use Rattle.pose.specs.PositionReader.{countFault}
 use Rattle.pose.proofs.count_fault.Statement.{statement}
 use Rattle.pose.proofs.count_fault.Tie as tie
 

@@ -6,7 +6,7 @@ use lib.ListN.{length}
 use borrow.Author.Needs.{needs}
 use borrow.Author.Tests.{eq-eqb, ne-eqb}
 use Rattle.fields.proofs.Laws.Tests.{cond-yes, cond-no}
-use Rattle.pose.specs.Position.{countFault, positionFault}
+use Rattle.pose.specs.PositionReader.{countFault, positionFault}
 use Rattle.pose.proofs.position_fault.Statement.{statement}
 use Rattle.pose.proofs.position_fault.Tie as tie
 

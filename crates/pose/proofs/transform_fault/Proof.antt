@@ -2,7 +2,7 @@
 use mathlib.Core.Path.{sym}
 use lib.ListN.{length}
 use borrow.Author.Tests.{eq-eqb, ne-eqb}
-use Rattle.pose.specs.Transform.{transformFault}
+use Rattle.pose.specs.TransformReader.{transformFault}
 use Rattle.pose.proofs.transform_fault.Statement.{statement}
 use Rattle.pose.proofs.transform_fault.Tie as tie
 

@@ -5,7 +5,7 @@ use native.Mathlib.Omega.{arith}
 use borrow.Author.Needs.{needs}
 use Rattle.fields.specs.Answer.{roomFault}
 use Rattle.fields.proofs.Laws.Checks.{else-first, else-second}
-use Rattle.pose.specs.Position.{countFault}
+use Rattle.pose.specs.PositionReader.{countFault}
 use Rattle.pose.proofs.Laws.{count-few}
 use Rattle.pose.proofs.write_fault.Statement.{statement}
 use Rattle.pose.proofs.write_fault.Tie as tie

@@ -8,7 +8,7 @@ use Rattle.fields.specs.Answer.{roomFault}
 use Rattle.fields.proofs.Laws.Checks.{zero-else}
 use Rattle.fields.proofs.Laws.Writers.{refuses, stored}
 use Rattle.pose.specs.Words.{wordBytes}
-use Rattle.pose.specs.Position.{countFault}
+use Rattle.pose.specs.PositionReader.{countFault}
 use Rattle.pose.proofs.Laws.{length-wordBytes, count-few, position-room}
 use Rattle.pose.proofs.write_position.Statement.{statement}
 use Rattle.pose.proofs.write_position.Tie as tie
