@@ -24,12 +24,16 @@ typeOk t = leb (length t) 12 && isText t
 abbrev pub textsOk : Child → Bool
 textsOk c = typeOk (c .typeText) && isText (c .name)
 
+-- the most that N_CHILD and NAME_TABLE_SIZE, of two bytes each, can say (rule 4.9)
+abbrev pub sizeLimit : ℕ
+sizeLimit = 65535
+
 -- the count and the name table, with its pad, fit their size fields
 abbrev pub countFits : List (List ℕ) → Bool
-countFits ts = leb (length ts) 65535
+countFits ts = leb (length ts) sizeLimit
 
 abbrev pub tableFits : List Child → Bool
-tableFits cs = leb (length (nameTable cs)) 65535
+tableFits cs = leb (length (nameTable cs)) sizeLimit
 
 -- three lists of one length, of texts that fit, not too many and not too long together
 unfoldable pub listsOk : List (List ℕ) → List (List ℕ) → List (List ℕ) → Bool

@@ -15,10 +15,9 @@ ghost use Rattle.fields.specs.Text.{textBytes};
 ghost use Rattle.fields.specs.Answer.{roomFault};
 ghost use Rattle.fields.specs.Writers.{writerFault};
 ghost use Rattle.bind_layout.specs.Children.{padded, encodeChildren, ended};
-ghost use Rattle.content.specs.ContentCheck.{contentFault, nestedLevels};
 ghost use Rattle.content.specs.ContentTheorems.{firstFault};
 ghost use Rattle.bind_writer.specs.ChildLists.{children, WithNames, WithContents};
-ghost use Rattle.bind_writer.specs.BindWriter.{typeOk, textsOk, listsOk, childFault, givenFault, cleanContent, bindBytes, plainHeader, cleanData, BindPromise};
+ghost use Rattle.bind_writer.specs.BindWriter.{sizeLimit, typeOk, textsOk, listsOk, childFault, givenFault, cleanContent, bindBytes, plainHeader, cleanData, BindPromise};
 
 // One more than NAME_TABLE_SIZE can say (rule 4.9).
 const TOO_LONG: usize = SIZE_LIMIT + 1;
@@ -55,7 +54,7 @@ fn texts_ok(types: &[&[u8]], names: &[&[u8]]) -> bool
 
 // The length of the names, each ended by one 0; 65,536 where it is more than that.
 fn names_len(names: &[&[u8]]) -> usize
-    ensures { λ r. ⌜ r ≡ min (length (flat ended (map now (now (names .entry))))) 65536 ⌝ }
+    ensures { λ r. ⌜ r ≡ min (length (flat ended (map now (now (names .entry))))) (sizeLimit + 1) ⌝ }
 {
     let mut sum: usize = 0;
     let mut i = 0;
@@ -94,14 +93,7 @@ fn lists_ok(types: &[&[u8]], names: &[&[u8]], contents: &[&[u8]]) -> bool
     true
 }
 
-// A child of the BIND that is written: a BIND there is level 2.
-fn child_fault(type_text: &[u8], content: &[u8]) -> u8
-    ensures { λ r. ⌜ r ≡ contentFault nestedLevels (now («type_text» .entry)) (now (content .entry)) ⌝ }
-{
-    content::nested_fault(type_text, content)
-}
-
-// The first fault among the children's contents, or 0.
+// The first fault among the children's contents, or 0. The BIND that is written is level 1, so a BIND there is level 2.
 fn first_fault(types: &[&[u8]], contents: &[&[u8]]) -> u8
     requires { ⌜ length (now contents) ≡ length (now types) ⌝ }
     ensures { λ r. ⌜ WithContents (map now (now (types .entry))) (map now (now (contents .entry))) (λ cs. r ≡ firstFault childFault cs) ⌝ }
@@ -110,7 +102,7 @@ fn first_fault(types: &[&[u8]], contents: &[&[u8]]) -> u8
     while i < types.len() {
         let type_text = types[i];
         let content = contents[i];
-        let fault = child_fault(type_text, content);
+        let fault = content::nested_fault(type_text, content);
         if fault != 0 {
             return fault;
         }
@@ -267,7 +259,7 @@ fn put_contents(types: &[&[u8]], contents: &[&[u8]], at: usize, out: &mut [u8]) 
 // Writes NAME_TABLE_SIZE and the table, and gives the place behind them.
 fn put_table(names: &[&[u8]], at: usize, out: &mut [u8]) -> usize
     requires { ⌜
-        (length (padded (flat ended (map now (now names)))) ≤ 65535)
+        (length (padded (flat ended (map now (now names)))) ≤ sizeLimit)
         × (at + (2 + length (padded (flat ended (map now (now names))))) ≤ length (now out))
         ⌝ }
     ensures place { λ r. ⌜ r ≡ at + (2 + length (padded (flat ended (map now (now (names .entry)))))) ⌝ }

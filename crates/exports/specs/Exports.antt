@@ -1,5 +1,6 @@
 -- Answers as bytes, each number in eight; and a stream pushed in pieces of given lengths.
 use Prim.Native.Nat.{ℕ, zero, suc, _+_, _/_}
+use mathlib.Core.Path.{_≡_}
 use mathlib.Core.Bool.{Bool, true, false, not}
 use mathlib.Core.List.{List, [], _∷_, _++_}
 use lib.Dec.{eqb}
@@ -7,10 +8,12 @@ use lib.ListN.{length, replicate, drop}
 use Rattle.fields.specs.Bytes.{part}
 use Rattle.fields.specs.Numbers.{beAt}
 use Rattle.fields.specs.Layout.{join, numberFields}
+use Rattle.fields.specs.Answer.{writtenNumber, writtenCount}
 use Rattle.bind_cursor.specs.declared.Cursor.{Cursor}
+use Rattle.message.specs.declared.Layout.{Layout}
 use Rattle.message.specs.declared.Answer.{Answer}
 use Rattle.message.specs.Message.{Parts}
-use Rattle.message.specs.MessageWriter.{given}
+use Rattle.message.specs.MessageWriter.{given, messageWritten, messageOut}
 use Rattle.message.specs.MessageReader as message
 use Rattle.feed.specs.declared.Feed.{Feed}
 use Rattle.feed.specs.declared.OpenAnswer.{OpenAnswer}
@@ -51,6 +54,12 @@ answerBytes a = join (numberFields (replicate 14 8) (answerNumbers a))
 abbrev pub messageGiven : ℕ → ℕ → ℕ → List ℕ → List ℕ → List ℕ → List ℕ → List ℕ → Parts
 messageGiven version stamp id t n further content metadata =
     given (record { version = version; «time_stamp» = stamp; id = id }) t n further content metadata
+
+-- what the writer gives for the message p: the count of bytes and the number of its answer, and the buffer that it leaves
+pub record WrittenAs (l : Layout) (p : Parts) (out : List ℕ) (r n : ℕ) (left : List ℕ) : Type 0 where
+  pub count : r ≡ writtenCount (messageWritten l p (length out))
+  pub number : n ≡ writtenNumber (messageWritten l p (length out))
+  pub bytes : left ≡ messageOut l p out
 
 -- ---- feeds
 

@@ -14,17 +14,15 @@ ghost use mathlib.Core.Path.{_≡_};
 ghost use mathlib.Core.List.{[], _∷_};
 ghost use lib.ListN.{length, replicate};
 ghost use lib.Seq.{sets};
-ghost use Rattle.fields.specs.Answer.{writtenNumber, writtenCount};
 ghost use Rattle.fields.specs.Layout.{stores, numberFields};
 ghost use Rattle.crc64.specs.Crc.{crcOf};
 ghost use Rattle.content.specs.ContentCheck.{contentFault, deepest};
 ghost use Rattle.bind_cursor.specs.Cursor.{firstOf, nextOf};
 ghost use Rattle.message.specs.LayoutNumber.{layoutOf};
 ghost use Rattle.message.specs.MessageReader.{readOf};
-ghost use Rattle.message.specs.MessageWriter.{messageWritten, messageOut};
 ghost use Rattle.feed.specs.Push.{openOf};
 ghost use Rattle.replay.specs.Replay.{answerAt, lookAfter};
-ghost use Rattle.exports.specs.Exports.{fieldNumbers, partNumbers, markNumber, answerBytes, messageGiven, pushCode, pushRead, pushedBytes, started, fedBy, fedTotal, fedBuffer, fedBytes, answerCode, carriedNumber, answeredFields, answeredBytes, cursorNumbers, cursorBytes, cursorAt};
+ghost use Rattle.exports.specs.Exports.{fieldNumbers, partNumbers, markNumber, answerBytes, messageGiven, WrittenAs, pushCode, pushRead, pushedBytes, started, fedBy, fedTotal, fedBuffer, fedBytes, answerCode, carriedNumber, answeredFields, answeredBytes, cursorNumbers, cursorBytes, cursorAt};
 
 // ---- the CRC and the contents
 
@@ -119,26 +117,11 @@ pub extern "C" fn kudireppa_write(
     out: &mut [u8],
     number: &mut u8,
 ) -> usize
-    ensures count { λ r.
+    ensures { λ r.
         ⌜
-        r
-        ≡ writtenCount (messageWritten (layoutOf layout)
+        WrittenAs (layoutOf layout)
         (messageGiven version «time_stamp» id (now («type_text» .entry)) (now («device_name» .entry)) (now (further .entry)) (now (content .entry)) (now (metadata .entry)))
-        (length (now (out .entry))))
-        ⌝ }
-    ensures number { λ _.
-        ⌜
-        now (number .exit)
-        ≡ writtenNumber (messageWritten (layoutOf layout)
-        (messageGiven version «time_stamp» id (now («type_text» .entry)) (now («device_name» .entry)) (now (further .entry)) (now (content .entry)) (now (metadata .entry)))
-        (length (now (out .entry))))
-        ⌝ }
-    ensures bytes { λ _.
-        ⌜
-        now (out .exit)
-        ≡ messageOut (layoutOf layout)
-        (messageGiven version «time_stamp» id (now («type_text» .entry)) (now («device_name» .entry)) (now (further .entry)) (now (content .entry)) (now (metadata .entry)))
-        (now (out .entry))
+        (now (out .entry)) r (now (number .exit)) (now (out .exit))
         ⌝ }
 {
     let fixed = FixedFields {

@@ -6,7 +6,7 @@ use mathlib.Core.List.{List, _++_}
 use lib.ListN.{length}
 use Rattle.crc64.specs.Crc.{crcOf}
 use Rattle.fields.specs.Received.{zeroed, Fills}
-use Rattle.header.specs.Header.{Header, encodeHeader, limit}
+use Rattle.header.specs.Header.{typeSize, nameSize, Header, encodeHeader, limit}
 use Rattle.metadata.specs.Metadata.{Metadata, WellMetadata, encodeMetadata, indexSize}
 use Rattle.content.specs.Tree.{Content, typeText}
 use Rattle.content.specs.Tree as tree
@@ -86,8 +86,8 @@ encode l m = encodeWith l (indexSize (m .metadata)) (partsOf m)
 -- ---- what the rules ask of a message
 
 pub record WellFormed (l : Layout) (m : Message) : Type 0 where
-  pub type-fills : Fills 12 (typeText (m .content)) (m .typeRest)
-  pub name-fills : Fills 20 (m .deviceName) (m .nameRest)
+  pub type-fills : Fills typeSize (typeText (m .content)) (m .typeRest)
+  pub name-fills : Fills nameSize (m .deviceName) (m .nameRest)
   pub stamp-fits : m .timeStamp < 256 ^ 8
   pub sections : WellSections l (m .version) (indexSize (m .metadata)) (partsOf m .sections)
   pub content : tree.WellFormed (m .content) deepest
@@ -98,8 +98,8 @@ pub record WellFormed (l : Layout) (m : Message) : Type 0 where
 
 -- every rest fills its field behind the text
 pub record RestsFill (m : Message) : Type 0 where
-  pub type-fills : Fills 12 (typeText (m .content)) (m .typeRest)
-  pub name-fills : Fills 20 (m .deviceName) (m .nameRest)
+  pub type-fills : Fills typeSize (typeText (m .content)) (m .typeRest)
+  pub name-fills : Fills nameSize (m .deviceName) (m .nameRest)
   pub content-fills : tree.RestsFill (m .content)
 
 -- every rest is zeros (rule 13.2)

@@ -9,7 +9,8 @@ use lib.ListN.{length, replicate}
 use Rattle.fields.specs.declared.Written.{Written}
 use Rattle.fields.specs.Checks.{orElse}
 use Rattle.fields.specs.Writers.{writtenBy, outBy, WriterPromise}
-use Rattle.header.specs.Header.{limit}
+use Rattle.header.specs.Header.{headerSize, typeSize, nameSize, limit}
+use Rattle.header.specs.declared.HeaderFields.{HeaderFields}
 use Rattle.header.specs.HeaderReader.{limitFault}
 use Rattle.header.specs.HeaderWriter.{namesFault}
 use Rattle.metadata.specs.MetadataCheck.{indexSizeIn}
@@ -18,7 +19,7 @@ use Rattle.cleaning.specs.CleanBytes.{cleanBytes}
 use Rattle.message.specs.declared.Layout.{Layout}
 use Rattle.message.specs.declared.Layout.the-variants.{New, Old}
 use Rattle.message.specs.declared.FixedFields.{FixedFields}
-use Rattle.message.specs.Body.{extendedLeast, Sections, MetadataFits, encodeBody}
+use Rattle.message.specs.Body.{extendedLeast, sizeLimit, Sections, MetadataFits, encodeBody}
 use Rattle.message.specs.Message.{Parts, bodyOf, encodeWith}
 use Rattle.message.specs.MessageReader.{versionFault, sectionsFault}
 
@@ -31,9 +32,9 @@ given f typeText deviceName further content metadata =
     record {
       version = f .version;
       typeText = typeText;
-      typeRest = replicate (12 - length typeText) 0;
+      typeRest = replicate (typeSize - length typeText) 0;
       deviceName = deviceName;
-      nameRest = replicate (20 - length deviceName) 0;
+      nameRest = replicate (nameSize - length deviceName) 0;
       timeStamp = f .«time_stamp»;
       sections = sectionsGiven (f .id) further content metadata;
     }
@@ -53,7 +54,7 @@ bodyLength version further content metadata = cond (eqb version 2) (extendedLeas
 -- length has room for the body
 abbrev pub BodyFits : Layout → ℕ → List ℕ → List ℕ → List ℕ → ℕ → Type 0
 BodyFits l version further content metadata room =
-    (version ≡ 2 → (extendedLeast + length further ≤ 65535) × MetadataFits l (indexSizeIn metadata) (length metadata))
+    (version ≡ 2 → (extendedLeast + length further ≤ sizeLimit) × MetadataFits l (indexSizeIn metadata) (length metadata))
     × (length content ≤ limit)
     × (bodyLength version (length further) (length content) (length metadata) ≤ room)
 
@@ -64,14 +65,14 @@ bodyWritten l version id t further content metadata =
 
 -- of V 2: the metadata's size of two bytes fits: in the new layout that of the index, in the old that of the whole metadata
 abbrev pub sizeFits : Layout → ℕ → ℕ → Bool
-sizeFits New index metadata = leb index 65535
-sizeFits Old index metadata = leb metadata 65535
+sizeFits New index metadata = leb index sizeLimit
+sizeFits Old index metadata = leb metadata sizeLimit
 
 -- check 6 of a writer (rule 5.9), by MSG_ID and the lengths of further bytes, index and metadata: V 1 has none of them; in V 2 they fit
 unfoldable pub fits : Layout → ℕ → ℕ → ℕ → ℕ → ℕ → Bool
 fits l version id further index metadata =
     cond (eqb version 2)
-    (leb (extendedLeast + further) 65535 && sizeFits l index metadata)
+    (leb (extendedLeast + further) sizeLimit && sizeFits l index metadata)
     (eqb id 0 && (eqb further 0 && eqb metadata 0))
 
 abbrev pub fitOk : Layout → ℕ → Sections → Bool
@@ -108,6 +109,14 @@ cleanParts p =
 
 abbrev pub messageBytes : Layout → Parts → List ℕ
 messageBytes l p = encodeParts l (cleanParts p)
+
+-- what a message is written from: it passed the checks, its body has this size, and a buffer of this length has room for it
+abbrev pub MessageFits : Layout → Parts → ℕ → ℕ → Type 0
+MessageFits l p size room = (givenFault l p ≡ 0) × (size ≡ length (bodyGiven l p)) × (headerSize + size ≤ room)
+
+-- the fields of its header, for a body of this size and CRC
+abbrev pub headerGiven : FixedFields → ℕ → ℕ → HeaderFields
+headerGiven f size crc = record { version = f .version; «time_stamp» = f .«time_stamp»; «body_size» = size; crc = crc }
 
 -- the answer for a buffer of this length, and the buffer that is left: these checks, then 20
 abbrev pub messageWritten : Layout → Parts → ℕ → Written

@@ -181,7 +181,12 @@ fn put_extended(
     out: &mut [u8],
 )
     requires { ⌜ BodyFits layout 2 (now further) (now content) (now metadata) (length (now out)) ⌝ }
-    ensures { λ _. ⌜ now (out .exit) ≡ sets (now (out .entry)) 0 (bodyWritten layout 2 id (now («type_text» .entry)) (now (further .entry)) (now (content .entry)) (now (metadata .entry))) ⌝ }
+    ensures { λ _.
+        ⌜
+        now (out .exit)
+        ≡ sets (now (out .entry)) 0
+        (bodyWritten layout 2 id (now («type_text» .entry)) (now (further .entry)) (now (content .entry)) (now (metadata .entry)))
+        ⌝ }
 {
     let content_at = EXTENDED_LEAST + further.len();
     let metadata_at = content_at + content.len();
@@ -208,7 +213,12 @@ pub(crate) fn put_body(
     out: &mut [u8],
 )
     requires { ⌜ BodyFits layout version (now further) (now content) (now metadata) (length (now out)) ⌝ }
-    ensures { λ _. ⌜ now (out .exit) ≡ sets (now (out .entry)) 0 (bodyWritten layout version id (now («type_text» .entry)) (now (further .entry)) (now (content .entry)) (now (metadata .entry))) ⌝ }
+    ensures { λ _.
+        ⌜
+        now (out .exit)
+        ≡ sets (now (out .entry)) 0
+        (bodyWritten layout version id (now («type_text» .entry)) (now (further .entry)) (now (content .entry)) (now (metadata .entry)))
+        ⌝ }
 {
     if version == 2 {
         put_extended(layout, id, further, type_text, content, metadata, out);

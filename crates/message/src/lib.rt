@@ -11,10 +11,10 @@ ghost use mathlib.Core.Path.{_≡_};
 ghost use Prim.Native.Nat.{_+_, _≤_};
 ghost use mathlib.Core.List.{_++_};
 ghost use lib.ListN.{length, drop};
-ghost use Rattle.header.specs.Header.{limit};
+ghost use Rattle.header.specs.Header.{headerSize, limit};
 ghost use Rattle.message.specs.LayoutNumber.{layoutOf};
 ghost use Rattle.message.specs.MessageReader.{versionFault, contentsFault, contentsChecked, bodyChecked, placesOf, Within, refused, accepted, readOf, typeIn, nameIn, furtherIn, contentIn, metadataIn};
-ghost use Rattle.message.specs.MessageWriter.{given, bodyGiven, sectionsGiven, givenSectionsFault, givenFault, messageBytes, MessagePromise};
+ghost use Rattle.message.specs.MessageWriter.{given, sectionsGiven, givenSectionsFault, givenFault, messageBytes, MessageFits, headerGiven, MessagePromise};
 
 // The two layouts of the extended header (rule 3.6). Whoever reads or writes names one.
 pub enum Layout {
@@ -247,7 +247,12 @@ fn given_sections_fault(
     content: &[u8],
     metadata: &[u8],
 ) -> u8
-    ensures { λ r. ⌜ r ≡ givenSectionsFault layout (fixed .version) (now («type_text» .entry)) (sectionsGiven (fixed .id) (now (further .entry)) (now (content .entry)) (now (metadata .entry))) ⌝ }
+    ensures { λ r.
+        ⌜
+        r
+        ≡ givenSectionsFault layout (fixed .version) (now («type_text» .entry))
+        (sectionsGiven (fixed .id) (now (further .entry)) (now (content .entry)) (now (metadata .entry)))
+        ⌝ }
 {
     let fault = version_fault(fixed.version);
     if fault != 0 {
@@ -289,6 +294,18 @@ fn given_fault(
     given_sections_fault(layout, fixed, type_text, further, content, metadata)
 }
 
+// The fields of the header of a message whose body has this size and CRC.
+fn header_fields(fixed: FixedFields, size: usize, crc: u64) -> header::HeaderFields
+    ensures { λ r. ⌜ r ≡ headerGiven fixed size crc ⌝ }
+{
+    header::HeaderFields {
+        version: fixed.version,
+        time_stamp: fixed.time_stamp,
+        body_size: size,
+        crc: crc,
+    }
+}
+
 // Writes a message that passed the checks, its content cleaned, into a buffer with room for its body of so many bytes.
 fn put_message(
     layout: Layout,
@@ -302,16 +319,15 @@ fn put_message(
     out: &mut [u8],
 )
     requires { ⌜
-        (givenFault layout (given fixed (now «type_text») (now «device_name») (now further) (now content) (now metadata)) ≡ 0)
-        × (size ≡ length (bodyGiven layout (given fixed (now «type_text») (now «device_name») (now further) (now content) (now metadata))))
-        × (58 + size ≤ length (now out))
+        MessageFits layout (given fixed (now «type_text») (now «device_name») (now further) (now content) (now metadata)) size
+        (length (now out))
         ⌝ }
     ensures { λ _.
         ⌜
         now (out .exit)
         ≡ messageBytes layout
         (given fixed (now («type_text» .entry)) (now («device_name» .entry)) (now (further .entry)) (now (content .entry)) (now (metadata .entry)))
-        ++ drop (58 + size) (now (out .entry))
+        ++ drop (headerSize + size) (now (out .entry))
         ⌝ }
 {
     body::put_body(
@@ -325,13 +341,7 @@ fn put_message(
         &mut out[HEADER_SIZE..HEADER_SIZE + size],
     );
     let crc = crc64::crc64(&out[HEADER_SIZE..HEADER_SIZE + size]);
-    let header = header::HeaderFields {
-        version: fixed.version,
-        time_stamp: fixed.time_stamp,
-        body_size: size,
-        crc: crc,
-    };
-    header::write_header(header, type_text, device_name, out);
+    header::write_header(header_fields(fixed, size, crc), type_text, device_name, out);
 }
 
 // Writes a message that passed the checks, its content cleaned, if the buffer has room for it.

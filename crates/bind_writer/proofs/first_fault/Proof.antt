@@ -29,14 +29,14 @@ returns : tie.Need-returns Inv-loop μ-loop
 returns c =
     let a = c .before .before .before .before .before .before .args in
     let l = c .before .before .before .before .before .loop in
-    let n = c .before .child-fault in
+    let n = c .before .nested-fault in
     λ cs p q. sym (l .inv .1 cs p q ∙ faults-stop (a .types .now) (l .i) (omega arith) cs p (a .contents .now) q (n .result) (n .ensures) (c .if1 .taken))
 
 loop-again : tie.Need-loop-again Inv-loop μ-loop
 loop-again c =
     let a = c .before .before .before .before .before .before .args in
     let l = c .before .before .before .before .before .loop in
-    let n = c .before .child-fault in (
+    let n = c .before .nested-fault in (
       omega arith,
       λ cs p q. l .inv .1 cs p q ∙ faults-next (a .types .now) (l .i) (omega arith) cs p (a .contents .now) q (n .result) (n .ensures) (c .if1 .left),
     )
