@@ -6,6 +6,7 @@ use lib.Dec.{eqb, leb, ltb}
 use lib.ListN.{length, take}
 use lib.Seq.{sets}
 use Rattle.fields.specs.Answer.{roomFault}
+use Rattle.header.specs.Header.{headerSize}
 use Rattle.header.specs.HeaderReader.{headerFault}
 use Rattle.message.specs.declared.Layout.{Layout}
 use Rattle.message.specs.MessageReader.{readOf, refused}
@@ -36,7 +37,8 @@ stoppedFeed l room = stateOf l room 0 0 0 true
 
 -- in this layout, over a buffer of so many bytes; 20 for fewer than 58 (rule 12.2)
 unfoldable pub openOf : Layout → ℕ → OpenAnswer
-openOf l room = cond (ltb room 58) (opening.Refused 20) (opening.Opened (keeping l room 0))
+openOf l room =
+    cond (eqb (roomFault headerSize room) 0) (opening.Opened (keeping l room 0)) (opening.Refused (roomFault headerSize room))
 
 -- ---- a push
 
@@ -45,7 +47,7 @@ pushed a f n = record { feed = f; answer = a; taken = n }
 
 -- 21, then 20 for a buffer of another length, or of fewer bytes than 58 (rule 12.2)
 unfoldable pub pushFault : Feed → ℕ → ℕ
-pushFault f room = cond (f .stopped) 21 (cond (eqb room (f .room)) (roomFault 58 room) 20)
+pushFault f room = cond (f .stopped) 21 (cond (eqb room (f .room)) (roomFault headerSize room) 20)
 
 -- how many bytes are kept, and which: those at the buffer's front (rule 12.8)
 abbrev pub keptLen : Feed → ℕ
@@ -67,10 +69,10 @@ fittingOf l room k n u e =
 -- the same u: its header is not whole, or it is refused, or its message fits the buffer, or it exceeds it (12.3, 12.4)
 unfoldable pub takenIn : Layout → ℕ → ℕ → ℕ → List ℕ → PushResult
 takenIn l room k n u =
-    cond (ltb (length u) 58) (pushed Nothing (keeping l room (length u)) n)
+    cond (ltb (length u) headerSize) (pushed Nothing (keeping l room (length u)) n)
     (cond (eqb (headerFault u) 0)
     (cond (leb (endOf u) room) (fittingOf l room k n u (endOf u)) (passedOf l room (endOf u) (endOf u - k) n))
-    (pushed (Read (refused (headerFault u) 0)) (stoppedFeed l room) (58 - k)))
+    (pushed (Read (refused (headerFault u) 0)) (stoppedFeed l room) (headerSize - k)))
 
 unfoldable pub pushOf : Feed → List ℕ → List ℕ → PushResult
 pushOf f s buf =
@@ -82,7 +84,7 @@ pushOf f s buf =
 
 -- up to which of its bytes the message at the front of u goes to the buffer: to the header's end, or to its own where it fits (12.5, 12.7)
 unfoldable pub storedTo : ℕ → List ℕ → ℕ
-storedTo room u = cond (eqb (headerFault u) 0 && leb (endOf u) room) (endOf u) 58
+storedTo room u = cond (eqb (headerFault u) 0 && leb (endOf u) room) (endOf u) headerSize
 
 -- the fragment s behind the bytes kept, up to this byte of the message
 abbrev pub storedIn : Feed → List ℕ → List ℕ → ℕ → List ℕ

@@ -5,6 +5,7 @@ use mathlib.Core.Bool.{Bool, true, false, cond, _&&_}
 use mathlib.Core.List.{List, [], _∷_, _++_}
 use lib.Dec.{eqb, leb, ltb}
 use lib.ListN.{length, drop}
+use Rattle.header.specs.Header.{headerSize}
 use Rattle.header.specs.HeaderReader.{headerOf, headerFault}
 use Rattle.message.specs.declared.Layout.{Layout}
 use Rattle.message.specs.declared.Answer.{Answer}
@@ -19,7 +20,7 @@ pub record Reading : Type 0 where
 
 -- how many bytes the message at the front of s has, by its header
 abbrev pub endOf : List ℕ → ℕ
-endOf s = 58 + headerOf s .bodySize
+endOf s = headerSize + headerOf s .bodySize
 
 -- the reader's answer, but 20 for a message that exceeds the buffer (rule 12.7)
 abbrev pub answerFor : ℕ → Answer → Answer

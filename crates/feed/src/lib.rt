@@ -11,6 +11,7 @@ ghost use Prim.Native.Nat.{_-_, _≤_, min};
 ghost use mathlib.Core.List.{_++_};
 ghost use lib.ListN.{length, take};
 ghost use lib.Seq.{sets};
+ghost use Rattle.header.specs.Header.{headerSize};
 ghost use Rattle.feed.specs.declared.PushAnswer.the-variants.{Nothing, Read, Refused};
 ghost use Rattle.feed.specs.Push.{stateOf, keeping, passing, stoppedFeed, openOf, pushed, pushFault, keptLen, passedOf, fittingOf, takenIn, pushOf, storedTo, bufferOf};
 
@@ -84,8 +85,9 @@ pub fn open_feed(layout: Layout, buffer: &[u8]) -> OpenAnswer
     ensures { λ r. ⌜ r ≡ openOf layout (length (now (buffer .entry))) ⌝ }
 {
     let room = buffer.len();
-    if room < HEADER_SIZE {
-        return OpenAnswer::Refused(20);
+    let fault = room_fault(HEADER_SIZE, room);
+    if fault != 0 {
+        return OpenAnswer::Refused(fault);
     }
     OpenAnswer::Opened(keeping(layout, room, 0))
 }
@@ -192,7 +194,7 @@ fn take_body(
 
 // What a push gives that is not refused, and does not begin in a message that is passed over.
 fn take_in(layout: Layout, kept: usize, fragment: &[u8], buffer: &mut [u8]) -> PushResult
-    requires { ⌜ (58 ≤ length (now buffer)) × (kept ≤ length (now buffer)) ⌝ }
+    requires { ⌜ (headerSize ≤ length (now buffer)) × (kept ≤ length (now buffer)) ⌝ }
     ensures answer { λ r.
         ⌜ r ≡ takenIn layout (length (now (buffer .entry))) kept (length (now (fragment .entry))) (take kept (now (buffer .entry)) ++ now (fragment .entry)) ⌝ }
     ensures bytes { λ _.

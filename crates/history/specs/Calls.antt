@@ -7,6 +7,17 @@ use lib.ListN.{length, take, replicate}
 use Rattle.fields.specs.Bytes.{Bytes}
 use Rattle.message.specs.declared.Layout.{Layout}
 
+-- how many tiles there may be (check 18), and how many milliseconds a hold time may have (rule 7.3)
+abbrev pub tileLimit : ℕ
+tileLimit = 16
+
+abbrev pub holdLimit : ℕ
+holdLimit = 60000
+
+-- how many bytes a value is handed out in: those of a TRANSFORM, the longest content of a tile (rule 7.7)
+abbrev pub valueSize : ℕ
+valueSize = 48
+
 pub data Call : Type 0 where
   add : (typeText name : List ℕ) (holdTime : ℕ) → Call
   linkUp : (layout : Layout) (clock : ℕ) → Call
@@ -71,15 +82,15 @@ pub data Answer : Type 0 where
   empty : Answer
   shown : Colour → (age : ℕ) (value : List ℕ) → Answer
 
--- a value is handed out as 48 bytes and a length: the bytes that are its own
+-- a value is handed out as so many bytes and a length: the bytes that are its own
 abbrev pub valueBytes : List ℕ → ℕ → List ℕ
 valueBytes bytes len = take len bytes
 
--- the length is that of its own bytes, at most 48, and zeros follow them
+-- the length is that of its own bytes, which fit, and zeros follow them
 pub record Padded (bytes : List ℕ) (len : ℕ) : Type 0 where
   pub count : length (valueBytes bytes len) ≡ len
-  pub fits : len ≤ 48
-  pub zeros : bytes ≡ valueBytes bytes len ++ replicate (48 - len) 0
+  pub fits : len ≤ valueSize
+  pub zeros : bytes ≡ valueBytes bytes len ++ replicate (valueSize - len) 0
 
 -- the number of each answer (rule 5.1)
 abbrev pub answerNumber : Answer → ℕ

@@ -10,11 +10,12 @@ use Rattle.fields.specs.Bytes.{same}
 use Rattle.fields.specs.Lists.{anyOf}
 use Rattle.fields.specs.Text.{isText}
 use Rattle.fields.specs.Checks.{orElse}
+use Rattle.header.specs.Header.{nameSize}
 use Rattle.content.specs.Kinds.{transformText, positionText}
 use Rattle.content.specs.Tree.{typeText}
 use Rattle.message.specs.declared.Layout.{Layout}
 use Rattle.message.specs.Message.{Message}
-use Rattle.history.specs.Calls.{Call, add, linkUp, linkDown, message, look, Entry, Link, atClock, Note, adding, linking, receiving, nothing, noteOf}
+use Rattle.history.specs.Calls.{tileLimit, holdLimit, Call, add, linkUp, linkDown, message, look, Entry, Link, atClock, Note, adding, linking, receiving, nothing, noteOf}
 use Rattle.history.specs.Places.{placeAt, passes, isThere, filled, countOf}
 use Rattle.history.specs.Reading.{Reading, noMessage, leftOver, oneMessage, Reader}
 
@@ -48,11 +49,11 @@ isPose t = same t transformText || same t positionText
 
 -- a name that a tile may have (rule 7.3)
 abbrev pub isTileName : List ℕ → Bool
-isTileName n = leb 1 (length n) && (leb (length n) 20 && isText n)
+isTileName n = leb 1 (length n) && (leb (length n) nameSize && isText n)
 
 -- a hold time that a tile may have (rule 7.3)
 abbrev pub isHoldTime : ℕ → Bool
-isHoldTime h = leb 1 h && leb h 60000
+isHoldTime h = leb 1 h && leb h holdLimit
 
 unfoldable pub isAllowed : List ℕ → List ℕ → ℕ → Bool
 isAllowed t n h = isPose t && (isTileName n && isHoldTime h)
@@ -71,7 +72,7 @@ tileFault o = cond (isThere o) 0 19
 
 -- there are as many tiles as there may be
 abbrev pub isFull : Summary → Bool
-isFull b = leb 16 (countOf (b .tiles))
+isFull b = leb tileLimit (countOf (b .tiles))
 
 -- is there a tile whose name and type the message carries (check 13)?
 abbrev pub countsOn : List (Option Entry) → Message → Bool

@@ -12,7 +12,7 @@ ghost use Rattle.fields.specs.Numbers.{beAt};
 
 // ---- answers
 
-fn print_value(bytes: [u8; 48], len: usize) {
+fn print_value(bytes: [u8; panel::VALUE_SIZE], len: usize) {
     vector_records::print_bytes(fields::slice::first(&bytes[..], len));
 }
 
@@ -104,18 +104,21 @@ fn print_script(number: u64, clock: u64, script: &[u8]) {
 
 // ---- records
 
+// Where the script of a record begins.
+const SCRIPT_AT: usize = 12;
+
 // Where the record at the front ends.
 fn end(records: &[u8]) -> usize
     ensures { λ r. ⌜ r ≡ 12 + beAt 4 0 (now (records .entry)) ⌝ }
 {
-    12 + fields::number::be32(records, 0) as usize
+    SCRIPT_AT + fields::number::be32(records, 0) as usize
 }
 
 fn print_scripts(records: &[u8]) {
     let mut left = records;
     let mut number = 0u64;
     while end(left) <= left.len() {
-        let script = fields::slice::part(left, 12, fields::number::be32(left, 0) as usize);
+        let script = fields::slice::part(left, SCRIPT_AT, fields::number::be32(left, 0) as usize);
         print_script(number, fields::number::be64(left, 4), script);
         let next = fields::slice::rest(left, end(left));
         left = next;

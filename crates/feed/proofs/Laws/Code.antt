@@ -3,10 +3,11 @@ use Prim.Native.Nat.{ℕ, _+_, _-_, _≤_, _<_, min}
 use mathlib.Core.Path.{_≡_, sym, ap, ap₂, _∙_}
 use mathlib.Core.List.{List, _++_}
 use native.Mathlib.Omega.{arith}
-use lib.Dec.{ltb}
+use lib.Dec.{eqb, ltb}
 use lib.ListN.{length, take, length-append, length-take}
 use lib.Seq.{sets, length-sets, length-take-le}
-use borrow.Author.Tests.{lt-ltb, le-ltb}
+use borrow.Author.Tests.{eq-eqb, ne-eqb, lt-ltb, le-ltb}
+use Rattle.fields.specs.Answer.{roomFault}
 use Rattle.fields.proofs.Laws.Stores.{take-sets, sets-over}
 use Rattle.fields.proofs.Laws.Tests.{cond-yes, cond-no}
 use Rattle.header.specs.Header.{limit}
@@ -27,13 +28,14 @@ use Rattle.feed.proofs.Laws.Pushes.{same-front}
 
 -- ---- open_feed
 
-pub opens-not : (l : Layout) (n : ℕ) → n < 58 → opening.Refused 20 ≡ openOf l n
-unfolding openOf
-opens-not l n h = sym (cond-yes (ltb n 58) _ _ (lt-ltb n 58 h))
+module _ (l : Layout) (room n : ℕ) (e : n ≡ roomFault 58 room) where
+  pub opens-not : (n ≡ 0 → ⊥) → opening.Refused n ≡ openOf l room
+  unfolding openOf
+  opens-not h = ap opening.Refused e ∙ sym (cond-no (eqb (roomFault 58 room) 0) _ _ (ne-eqb (roomFault 58 room) 0 (λ z. h (e ∙ z))))
 
-pub opens-so : (l : Layout) (n : ℕ) → 58 ≤ n → opening.Opened (keeping l n 0) ≡ openOf l n
-unfolding openOf
-opens-so l n h = sym (cond-no (ltb n 58) _ _ (le-ltb n 58 h))
+  pub opens-so : n ≡ 0 → opening.Opened (keeping l room 0) ≡ openOf l room
+  unfolding openOf
+  opens-so h = sym (cond-yes (eqb (roomFault 58 room) 0) _ _ (eq-eqb (roomFault 58 room) 0 (sym e ∙ h)))
 
 -- ---- what is kept, k bytes, and the fragment
 

@@ -7,8 +7,8 @@ use mathlib.Core.List.{List, [], _∷_, _++_, append-assoc, append-nil}
 use native.Mathlib.Omega.{arith}
 use lib.ListN.{length, take, length-append}
 use lib.Seq.{take-take, take-length, length-take-le}
-use borrow.Author.Tests.{lt-ltb, le-ltb}
-use Rattle.fields.proofs.Laws.Tests.{true-false, cond-yes, cond-no}
+use Rattle.fields.proofs.Laws.Answer.{room-enough, room-short}
+use Rattle.fields.proofs.Laws.Tests.{true-false}
 use Rattle.header.specs.HeaderReader.{headerFault}
 use Rattle.header.proofs.Laws.Faults.{fault-passed}
 use Rattle.message.specs.declared.Layout.{Layout}
@@ -16,7 +16,7 @@ use Rattle.message.specs.declared.Answer.{Answer}
 use Rattle.message.specs.MessageReader.{readOf, refused}
 use Rattle.feed.specs.declared.Feed.{Feed}
 use Rattle.feed.specs.declared.PushResult.{PushResult}
-use Rattle.feed.specs.Push.{keeping, passing, stoppedFeed, openOf, pushFault, keptIn, pushOf, storedIn}
+use Rattle.feed.specs.Push.{keeping, passing, stoppedFeed, pushFault, keptIn, pushOf, storedIn}
 use Rattle.feed.specs.Reading.{Reading, endOf, answerFor, behind, readingOf}
 use Rattle.feed.specs.Runs.{Run, answered, after, runOn, opened, run, readBy}
 use Rattle.feed.specs.FeedTheorems.{Cuts}
@@ -24,6 +24,7 @@ use Rattle.feed.proofs.Laws.Stores.{front-stored, take-behind}
 use Rattle.feed.proofs.Laws.Rows.{Row, refuses, passes, passed, short, wrong, begins, exceeds, part, whole, row}
 use Rattle.feed.proofs.Laws.Pushes.{same-front, grown, Whole, whole-of, whole-front, writes, fault-stopped, fault-none}
 use Rattle.feed.proofs.Laws.Readings.{answer-fits, answer-exceeds, reading-message, reading-short, reading-part, reading-passed, reading-wrong}
+use Rattle.feed.proofs.Laws.Code.{opens-not, opens-so}
 
 -- ---- what a feed stands for
 
@@ -376,11 +377,10 @@ module _ (l : Layout) (buf : List ℕ) (ss : List (List ℕ)) (large : 58 ≤ le
       some-next l (q .buffer) s (v .xs) (omega (arith, large, run-holds .0)) h (v .rest) (q .feed) (v .said) (v .stands) e
 
 pub cuts : (l : Layout) → Cuts l
-unfolding openOf
 cuts l =
     record {
-      too-short = λ buf h. cond-yes _ _ _ (lt-ltb (length buf) 58 h);
-      opens = λ buf h. cond-no _ _ _ (le-ltb (length buf) 58 h);
+      too-short = λ buf h. sym (opens-not l (length buf) 20 (sym (room-short 58 (length buf) h)) (λ z. omega (arith, z)));
+      opens = λ buf h. sym (opens-so l (length buf) 0 (sym (room-enough 58 (length buf) h)) refl);
       joined = joined-run l;
       counted = counted-run l;
       same-room = λ buf ss h. (run-holds l buf ss h .0, as-opened-run l buf ss h .0);

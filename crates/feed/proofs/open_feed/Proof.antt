@@ -8,10 +8,10 @@ use Rattle.feed.proofs.open_feed.Statement.{statement}
 use Rattle.feed.proofs.open_feed.Tie as tie
 
 returns : tie.Need-returns
-returns c = opens-not _ _ (c .if1 .taken)
+returns c = opens-not _ _ _ (c .before .room-fault .ensures) (c .if1 .taken)
 
 returns-2 : tie.Need-returns-2
-returns-2 c = ap (λ (f : Feed). opening.Opened f) (c .keeping .ensures) ∙ opens-so _ _ (c .before .if1 .left)
+returns-2 c = ap (λ (f : Feed). opening.Opened f) (c .keeping .ensures) ∙ opens-so _ _ _ (c .before .before .room-fault .ensures) (c .before .if1 .left)
 
 pub open-feed-spec : {M : Type 1} → statement M
-open-feed-spec = tie.close (tie.spec returns (λ c κs. search needs) returns-2)
+open-feed-spec = tie.close (tie.spec (λ c κs. search needs) returns (λ c κs. search needs) returns-2)

@@ -14,7 +14,7 @@ use Rattle.fields.proofs.Laws.Bytes.{bytes-tail}
 use Rattle.fields.proofs.Laws.Checks.{and-join}
 use Rattle.message.specs.declared.Layout.{Layout}
 use Rattle.message.specs.Message.{Message, WellFormed, encode}
-use Rattle.message.specs.MessageReader as check
+use Rattle.message.specs.MessageReader as reader
 use Rattle.message.specs.MessageReader.{readOf}
 use Rattle.message.specs.Demand2.{Begins}
 use Rattle.message.proofs.Laws.Below.{bytes-below}
@@ -51,7 +51,7 @@ read-bytes : (l : Layout) (s : List ℕ) → Bytes s → (r : Reading) × Reads 
 read-bytes l s b =
     by-zero (readOf l s .number)
     (λ e. let h = demand-2 l .accepted s b e in read-front l s (h .0) (h .1))
-    (λ n. (noMessage (check.streamFault l s), none (λ m h. n (demand-2 l .begun s m h))))
+    (λ n. (noMessage (reader.streamFault l s), none (λ m h. n (demand-2 l .begun s m h))))
 
 -- are they bytes?
 allBytes : List ℕ → Bool

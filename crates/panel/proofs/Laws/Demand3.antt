@@ -24,8 +24,8 @@ use Rattle.panel.specs.declared.Value.{Value}
 use Rattle.panel.specs.declared.Tile.{Tile}
 use Rattle.panel.specs.declared.Panel.{Panel}
 use Rattle.panel.specs.declared.LookResult.{LookResult}
-use Rattle.panel.specs.declared.LookAnswer.the-variants.{Empty, Green, Grey}
-use Rattle.panel.specs.Tiles.{noValue, noTile}
+use Rattle.panel.specs.declared.LookAnswer.the-variants.{Empty}
+use Rattle.panel.specs.Tiles.{noValue, noTile, coloured}
 use Rattle.panel.specs.Calls.{freshPanel, lookFault, lookedAt, refusedLook, lookOf}
 use Rattle.panel.specs.Answers.{lookAnswer}
 use Rattle.panel.specs.Demand3.{answerTo, panelNext, panelAfter, Demand3}
@@ -91,7 +91,7 @@ module _ (p : Panel) (i now : ℕ) where
   tile-empty-value : (x : Tile) → EmptyValue (lookedAt p x now)
   tile-empty-value x = empty-value (x .counted) (x .«since_link» && leb (now - x .clock) (x .«hold_time»)) (now - x .clock) (x .value)
     where
-      empty-value : (h c : Bool) (a : ℕ) (v : Value) → EmptyValue (record { panel = p; answer = cond h (cond c (Green a) (Grey a)) Empty; value = cond h v noValue })
+      empty-value : (h c : Bool) (a : ℕ) (v : Value) → EmptyValue (record { panel = p; answer = cond h (coloured c a) Empty; value = cond h v noValue })
       empty-value false c a v g = refl
       empty-value true true a v g = absurd (g (green, (a, bytesOf v, refl)))
       empty-value true false a v g = absurd (g (grey, (a, bytesOf v, refl)))

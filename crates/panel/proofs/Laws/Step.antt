@@ -38,8 +38,8 @@ use Rattle.panel.specs.declared.Value.{Value}
 use Rattle.panel.specs.declared.Label.{Label}
 use Rattle.panel.specs.declared.Tile.{Tile}
 use Rattle.panel.specs.declared.Panel.{Panel}
-use Rattle.panel.specs.declared.LookAnswer.the-variants.{Empty, Green, Grey}
-use Rattle.panel.specs.Tiles.{noValue, labelOf, noTile, newTile, isTile, relinked, countedTile, countedFor, colourOf, freeIn}
+use Rattle.panel.specs.declared.LookAnswer.the-variants.{Empty}
+use Rattle.panel.specs.Tiles.{noValue, labelOf, noTile, newTile, isTile, relinked, countedTile, countedFor, coloured, colourOf, freeIn}
 use Rattle.panel.specs.Calls as panel
 use Rattle.panel.specs.Calls.{labelIn, valueIn, entered, linked, received, lookedAt}
 use Rattle.panel.specs.Answers.{lookAnswer}
@@ -106,7 +106,7 @@ module _ (now : ℕ) where
   shownFrom counted since clock hold value =
       lookAnswer (cond counted (colourOf since (now - clock) hold) Empty) (cond counted value noValue)
 
-  colour-shown : (q : Bool) (a : ℕ) (v : Value) → lookAnswer (cond q (Green a) (Grey a)) v ≡ shown (cond q green grey) a (bytesOf v)
+  colour-shown : (q : Bool) (a : ℕ) (v : Value) → lookAnswer (coloured q a) v ≡ shown (cond q green grey) a (bytesOf v)
   colour-shown true a v = refl
   colour-shown false a v = refl
 
