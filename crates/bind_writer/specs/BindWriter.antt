@@ -5,30 +5,26 @@ use mathlib.Core.List.{List, _++_, map}
 use lib.Dec.{eqb, leb}
 use lib.ListN.{length}
 use Rattle.fields.specs.Lists.{allOf}
-use Rattle.fields.specs.Numbers.{beBytes}
+use Rattle.fields.specs.Numbers.{beBytes, sizeLimit}
 use Rattle.fields.specs.Text.{isText, textBytes}
 use Rattle.fields.specs.Checks.{orElse}
 use Rattle.fields.specs.Writers.{writtenBy, outBy, WriterPromise}
 use Rattle.fields.specs.declared.Written.{Written}
-use Rattle.bind_layout.specs.Children.{Child, padded, nameTable, encodeChildren}
+use Rattle.bind_layout.specs.Children.{ctypeSize, Child, padded, nameTable, encodeChildren}
 use Rattle.content.specs.ContentCheck.{contentFault, nestedLevels}
 use Rattle.content.specs.ContentTheorems.{firstFault}
 use Rattle.cleaning.specs.CleanBytes.{cleanBytes}
 use Rattle.bind_writer.specs.ChildLists.{children}
 
--- the type is a text of at most 12 bytes
+-- the type is a text that fits its field
 abbrev pub typeOk : List ℕ → Bool
-typeOk t = leb (length t) 12 && isText t
+typeOk t = leb (length t) ctypeSize && isText t
 
 -- and the name is a text
 abbrev pub textsOk : Child → Bool
 textsOk c = typeOk (c .typeText) && isText (c .name)
 
--- the most that N_CHILD and NAME_TABLE_SIZE, of two bytes each, can say (rule 4.9)
-abbrev pub sizeLimit : ℕ
-sizeLimit = 65535
-
--- the count and the name table, with its pad, fit their size fields
+-- the count and the name table, with its pad, fit N_CHILD and NAME_TABLE_SIZE, of two bytes each (rule 4.9)
 abbrev pub countFits : List (List ℕ) → Bool
 countFits ts = leb (length ts) sizeLimit
 
@@ -71,7 +67,7 @@ bindBytes ts ns ds = encodeChildren (written ts ns ds)
 
 -- a header, and the data with their pad, as the writer puts them
 abbrev pub plainHeader : Child → List ℕ
-plainHeader c = textBytes 12 (c .typeText) ++ beBytes 8 (length (c .content))
+plainHeader c = textBytes ctypeSize (c .typeText) ++ beBytes 8 (length (c .content))
 
 abbrev pub cleanData : Child → List ℕ
 cleanData c = padded (cleanContent (c .typeText) (c .content))

@@ -4,14 +4,14 @@ use mathlib.Core.Path.{_≡_}
 use mathlib.Core.List.{List, [], _∷_, map}
 use lib.ListN.{length, replicate}
 use Rattle.fields.specs.Lists.{Each}
-use Rattle.bind_layout.specs.Children.{Child}
+use Rattle.bind_layout.specs.Children.{ctypeSize, Child}
 
 -- the children, as many as the shortest list has
 unfoldable pub children : List (List ℕ) → List (List ℕ) → List (List ℕ) → List Child
 children [] ns ds = []
 children (t ∷ ts) [] ds = []
 children (t ∷ ts) (n ∷ ns) [] = []
-children (t ∷ ts) (n ∷ ns) (d ∷ ds) = record { typeText = t; rest = replicate (12 - length t) 0; name = n; content = d } ∷ children ts ns ds
+children (t ∷ ts) (n ∷ ns) (d ∷ ds) = record { typeText = t; rest = replicate (ctypeSize - length t) 0; name = n; content = d } ∷ children ts ns ds
 
 -- the lists of given children
 abbrev pub typesOf : List Child → List (List ℕ)

@@ -10,14 +10,14 @@ ghost use Prim.Native.Nat.{_+_, _*_, _%_, _≤_, min};
 ghost use lib.ListN.{length, replicate};
 ghost use lib.Seq.{sets};
 ghost use Rattle.fields.specs.Lists.{allOf, flat};
-ghost use Rattle.fields.specs.Numbers.{beBytes};
+ghost use Rattle.fields.specs.Numbers.{beBytes, sizeLimit};
 ghost use Rattle.fields.specs.Text.{textBytes};
 ghost use Rattle.fields.specs.Answer.{roomFault};
 ghost use Rattle.fields.specs.Writers.{writerFault};
 ghost use Rattle.bind_layout.specs.Children.{padded, encodeChildren, ended};
 ghost use Rattle.content.specs.ContentTheorems.{firstFault};
 ghost use Rattle.bind_writer.specs.ChildLists.{children, WithNames, WithContents};
-ghost use Rattle.bind_writer.specs.BindWriter.{sizeLimit, typeOk, textsOk, listsOk, childFault, givenFault, cleanContent, bindBytes, plainHeader, cleanData, BindPromise};
+ghost use Rattle.bind_writer.specs.BindWriter.{typeOk, textsOk, listsOk, childFault, givenFault, cleanContent, bindBytes, plainHeader, cleanData, BindPromise};
 
 // One more than NAME_TABLE_SIZE can say (rule 4.9).
 const TOO_LONG: usize = SIZE_LIMIT + 1;

@@ -19,6 +19,10 @@ beBytes (suc n) v = v / 256 ^ n % 256 ∷ beBytes n v
 abbrev pub beAt : ℕ → ℕ → List ℕ → ℕ
 beAt n at s = beVal (part n at s)
 
+-- the largest number of two bytes
+abbrev pub sizeLimit : ℕ
+sizeLimit = 65535
+
 -- ---- what is proved of them, for every width: a number's bytes spell that number and no other, and bytes are those of the number that they spell
 
 pub record BigEndian : Type 0 where

@@ -17,10 +17,6 @@ use Rattle.message.specs.declared.extended.ExtendedNumbers.{ExtendedNumb
 abbrev pub extendedLeast : ℕ
 extendedLeast = 12
 
--- the most that a size of two bytes can say: EXT_HEADER_SIZE in both layouts, METADATA_HEADER_SIZE in the new, METADATA_SIZE in the old (rule 3.6)
-abbrev pub sizeLimit : ℕ
-sizeLimit = 65535
-
 -- MSG_ID, the further bytes of the extended header, the content, the metadata
 pub record Sections : Type 0 where
   pub id : ℕ

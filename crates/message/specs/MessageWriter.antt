@@ -7,6 +7,7 @@ use mathlib.Core.List.{List}
 use lib.Dec.{eqb, leb}
 use lib.ListN.{length, replicate}
 use Rattle.fields.specs.declared.Written.{Written}
+use Rattle.fields.specs.Numbers.{sizeLimit}
 use Rattle.fields.specs.Checks.{orElse}
 use Rattle.fields.specs.Writers.{writtenBy, outBy, WriterPromise}
 use Rattle.header.specs.Header.{headerSize, typeSize, nameSize, limit}
@@ -19,7 +20,7 @@ use Rattle.cleaning.specs.CleanBytes.{cleanBytes}
 use Rattle.message.specs.declared.Layout.{Layout}
 use Rattle.message.specs.declared.Layout.the-variants.{New, Old}
 use Rattle.message.specs.declared.FixedFields.{FixedFields}
-use Rattle.message.specs.Body.{extendedLeast, sizeLimit, Sections, MetadataFits, encodeBody}
+use Rattle.message.specs.Body.{extendedLeast, Sections, MetadataFits, encodeBody}
 use Rattle.message.specs.Message.{Parts, bodyOf, encodeWith}
 use Rattle.message.specs.MessageReader.{versionFault, sectionsFault}
 
