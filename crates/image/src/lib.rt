@@ -15,11 +15,11 @@ use fields::store::put;
 ghost use mathlib.Core.Path.{_≡_};
 ghost use Prim.Native.Nat.{_+_, _*_, _^_, _≤_, _<_};
 ghost use mathlib.Core.List.{[], _∷_};
-ghost use lib.ListN.{length, take, drop, replicate};
+ghost use lib.ListN.{take, drop, replicate};
 ghost use Rattle.fields.specs.Layout.{numberFields, stores};
 ghost use Rattle.fields.specs.Checks.{orElse};
 ghost use Rattle.fields.specs.Answer.{roomFault};
-ghost use Rattle.image.specs.Image.{imageOfParts, three, headerNumbers, headerWidths, imageHeaderSize, encodeImage};
+ghost use Rattle.image.specs.Image.{three, headerNumbers, headerWidths, imageHeaderSize};
 ghost use Rattle.image.specs.ImageReader.{scalarSize, oneOrTwo, kindOk, within, directionOk, directionsOk, pixelBytes, ruleFault, headerOf, imageFault, noHeader, imageOf, pixelsOf};
 ghost use Rattle.image.specs.ImageWriter.{ImagePromise};
 

@@ -1,6 +1,5 @@
 -- `image::image_fault` meets its contract: too short, or the rule of what was read.
 use mathlib.Core.Path.{sym, _∙_}
-use lib.Dec.{leb}
 use borrow.Author.Tests.{le-leb, lt-leb}
 use borrow.Author.Needs.{needs}
 use Rattle.fields.proofs.Laws.Tests.{cond-yes, cond-no}
