@@ -396,8 +396,7 @@ pub fn write(
 ) -> Written
     ensures { λ r.
         ⌜
-        MessagePromise layout
-        (given fixed (now («type_text» .entry)) (now («device_name» .entry)) (now (further .entry)) (now (content .entry)) (now (metadata .entry)))
+        MessagePromise layout (given fixed (now («type_text» .entry)) (now («device_name» .entry)) (now (further .entry)) (now (content .entry)) (now (metadata .entry)))
         (now (out .entry)) r (now (out .exit))
         ⌝ }
 {
