@@ -61,7 +61,7 @@ nextOf s c =
     (c .clean)))
     c
 
--- the parts at the cursor's places: of no child they have no bytes
+-- the parts at the cursor's places: of `noChild` they have no bytes
 abbrev pub typePart : List ℕ → Cursor → List ℕ
 typePart s c = part (c .«type_len») (c .«type_at») s
 

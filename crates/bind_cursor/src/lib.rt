@@ -29,7 +29,7 @@ fn names_of(content: &[u8]) -> &[u8]
 }
 
 // Where the end of a content begins.
-fn place_of(content: &[u8], end: &[u8]) -> usize
+fn place_in(content: &[u8], end: &[u8]) -> usize
     ensures { λ r. ⌜ r ≡ length (now (content .entry)) - length (now (end .entry)) ⌝ }
 {
     if content.len() < end.len() {
@@ -72,11 +72,11 @@ fn child_at(
     Cursor {
         number: 0,
         left,
-        type_at: place_of(content, headers),
+        type_at: place_in(content, headers),
         type_len: bind_layout::bind_parts::type_of(headers).len(),
-        name_at: place_of(content, names),
+        name_at: place_in(content, names),
         name_len: fields::text::text_len(names),
-        at: place_of(content, blocks),
+        at: place_in(content, blocks),
         len: bind_layout::bind_parts::size_of(headers),
         clean,
     }
@@ -123,7 +123,7 @@ pub fn next_child(content: &[u8], cursor: Cursor) -> Cursor
     )
 }
 
-// The text of the type of the cursor's child. Without a child it is empty, and so are its name and its data.
+// The text of the type of the cursor's child. Where first_child or next_child gave no child it is empty, and so are its name and its data.
 pub fn type_text(content: &[u8], cursor: Cursor) -> &[u8]
     ensures { λ r. ⌜ now r ≡ typePart (now (content .entry)) cursor ⌝ }
 {

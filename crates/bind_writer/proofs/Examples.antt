@@ -23,7 +23,7 @@ use Rattle.content.specs.Kinds.{kindOf, bindText}
 use Rattle.content.specs.ContentCheck.{childrenFault, bindFault, contentFault, contentChecked, nestedLevels}
 use Rattle.content.specs.Examples.{within, inner, outer, innerRest}
 use Rattle.content.proofs.Examples.{examples as content-examples}
-use Rattle.cleaning.specs.CleanBytes.{cleanHeaders, cleanFront, cleanDatas, cleanBind, cleanBytes}
+use Rattle.cleaning.specs.CleanBytes.{cleanHeaders, cleanFront, cleanBlocks, cleanBind, cleanBytes}
 use Rattle.bind_writer.specs.ChildLists.{children}
 use Rattle.bind_writer.specs.BindWriter.{listsOk, listsFault, givenFault}
 use Rattle.bind_writer.specs.Examples.{Examples}
@@ -50,7 +50,7 @@ accepted = (
 )
 
 pub examples : Examples
-unfolding same sized allOf flat beVal beBytes isText textOf pastText allZero textOk textClean fieldOk textBytes fieldBytes checked roomFault writtenBy outBy padded childHeader childName childData nameTable encodeChildren typesOk nameOk namesOk tableOk padOk blockOk dataOk layoutOk layoutFault kindOf childrenFault bindFault contentFault contentChecked cleanHeaders cleanFront cleanDatas cleanBind cleanBytes children listsOk listsFault givenFault
+unfolding same sized allOf flat beVal beBytes isText textOf pastText allZero textOk textClean fieldOk textBytes fieldBytes checked roomFault writtenBy outBy padded childHeader childName childData nameTable encodeChildren typesOk nameOk namesOk tableOk padOk blockOk dataOk layoutOk layoutFault kindOf childrenFault bindFault contentFault contentChecked cleanHeaders cleanFront cleanBlocks cleanBind cleanBytes children listsOk listsFault givenFault
 examples =
     record {
       sizes-fit = (omega arith, (omega arith, tt));

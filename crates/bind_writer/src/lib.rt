@@ -14,7 +14,7 @@ ghost use Rattle.fields.specs.Numbers.{beBytes, sizeLimit};
 ghost use Rattle.fields.specs.Text.{textBytes};
 ghost use Rattle.fields.specs.Answer.{roomFault};
 ghost use Rattle.fields.specs.Writers.{writerFault};
-ghost use Rattle.bind_layout.specs.Children.{padded, encodeChildren, ended};
+ghost use Rattle.bind_layout.specs.Children.{childHeaderSize, ctypeSize, padded, encodeChildren, ended};
 ghost use Rattle.content.specs.ContentTheorems.{firstFault};
 ghost use Rattle.bind_writer.specs.ChildLists.{children, WithNames, WithContents};
 ghost use Rattle.bind_writer.specs.BindWriter.{typeOk, textsOk, listsOk, childFault, givenFault, cleanContent, bindBytes, plainHeader, cleanData, BindPromise};
@@ -179,8 +179,8 @@ fn put_pad(n: usize, at: usize, out: &mut [u8])
 
 // Writes CTYPE and CSIZE. On the target a length has 64 bits, so it fits the 8 bytes of CSIZE and the cast keeps it.
 fn put_header(type_text: &[u8], size: usize, at: usize, out: &mut [u8])
-    requires { ⌜ at + 20 ≤ length (now out) ⌝ }
-    ensures { λ _. ⌜ now (out .exit) ≡ sets (now (out .entry)) at (textBytes 12 (now («type_text» .entry)) ++ beBytes 8 size) ⌝ }
+    requires { ⌜ at + childHeaderSize ≤ length (now out) ⌝ }
+    ensures { λ _. ⌜ now (out .exit) ≡ sets (now (out .entry)) at (textBytes ctypeSize (now («type_text» .entry)) ++ beBytes 8 size) ⌝ }
 {
     fields::text::put_text12(type_text, at, out);
     fields::number::put64(size as u64, at + CTYPE_SIZE, out);
@@ -188,7 +188,7 @@ fn put_header(type_text: &[u8], size: usize, at: usize, out: &mut [u8])
 
 // Writes the headers, from behind N_CHILD on.
 fn put_headers(types: &[&[u8]], contents: &[&[u8]], out: &mut [u8])
-    requires { ⌜ (length (now contents) ≡ length (now types)) × (2 + 20 * length (now types) ≤ length (now out)) ⌝ }
+    requires { ⌜ (length (now contents) ≡ length (now types)) × (2 + childHeaderSize * length (now types) ≤ length (now out)) ⌝ }
     ensures { λ _. ⌜ WithContents (map now (now (types .entry))) (map now (now (contents .entry))) (λ cs. now (out .exit) ≡ sets (now (out .entry)) 2 (flat plainHeader cs)) ⌝ }
 {
     let mut i = 0;

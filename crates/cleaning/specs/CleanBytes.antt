@@ -26,17 +26,17 @@ abbrev pub cleanAs : (List ℕ → List ℕ) → List ℕ → List ℕ → List 
 cleanAs bind t s = cond (same t bindText) (bind s) s
 
 -- the data of k children, each with its pad
-unfoldable pub cleanDatas : (List ℕ → List ℕ) → ℕ → List ℕ → List ℕ → List ℕ
-cleanDatas bind zero h d = []
-cleanDatas bind (suc k) h d =
+unfoldable pub cleanBlocks : (List ℕ → List ℕ) → ℕ → List ℕ → List ℕ → List ℕ
+cleanBlocks bind zero h d = []
+cleanBlocks bind (suc k) h d =
     cleanAs bind (typeOf h) (take (sizeOf h) d)
-    ++ (part (sizeOf h % 2) (sizeOf h) d ++ cleanDatas bind k (drop childHeaderSize h) (afterBlock (sizeOf h) d))
+    ++ (part (sizeOf h % 2) (sizeOf h) d ++ cleanBlocks bind k (drop childHeaderSize h) (afterBlock (sizeOf h) d))
 
 -- a BIND where so many levels are left; one too deep, or not laid out as a BIND, stays as it is
 unfoldable pub cleanBind : ℕ → List ℕ → List ℕ
 cleanBind zero s = s
 cleanBind (suc levels) s =
-    cond (eqb (layoutFault s) 0) (cleanFront s ++ cleanDatas (cleanBind levels) (childCount s) (headers s) (dataOf s)) s
+    cond (eqb (layoutFault s) 0) (cleanFront s ++ cleanBlocks (cleanBind levels) (childCount s) (headers s) (dataOf s)) s
 
 unfoldable pub cleanBytes : ℕ → List ℕ → List ℕ → List ℕ
 cleanBytes levels t s = cleanAs (cleanBind levels) t s

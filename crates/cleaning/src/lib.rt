@@ -6,12 +6,13 @@ ghost use Prim.Native.Nat.{_+_, _*_, _≤_};
 ghost use mathlib.Core.Path.{_≡_};
 ghost use lib.ListN.{length};
 ghost use lib.Seq.{sets};
+ghost use Rattle.bind_layout.specs.Children.{childHeaderSize};
 ghost use Rattle.bind_layout.specs.BindLayout.{layoutFault};
 ghost use Rattle.cleaning.specs.CleanBytes.{cleanHeaders, cleanFront, cleanBind, cleanBytes, boundedLevels, cleanPut};
 
 // Writes the headers of n children: the text of each CTYPE, zeros, and CSIZE.
 fn put_headers(headers: &[u8], n: usize, at: usize, out: &mut [u8])
-    requires { ⌜ (20 * n ≤ length (now headers)) × (at + 20 * n ≤ length (now out)) ⌝ }
+    requires { ⌜ (childHeaderSize * n ≤ length (now headers)) × (at + childHeaderSize * n ≤ length (now out)) ⌝ }
     ensures { λ _. ⌜ now (out .exit) ≡ sets (now (out .entry)) at (cleanHeaders n (now (headers .entry))) ⌝ }
 {
     let mut h = headers;

@@ -1,6 +1,6 @@
 -- The number (rule 5.1) for a content, by its type: 8 for a TRANSFORM or a POSITION, 9 for an IMAGE, 10 for a BIND's layout, 11 for a BIND
 -- of level 5, 0 for none. And the mark (rule 13.2): is every CTYPE in it clean, at every level?
-use Prim.Native.Nat.{ℕ, zero, suc}
+use Prim.Native.Nat.{ℕ, zero, suc, _-_}
 use mathlib.Core.Bool.{Bool, true, false, _&&_}
 use mathlib.Core.List.{List}
 use lib.ListN.{take, drop}
@@ -75,4 +75,4 @@ deepest = 4
 
 -- so a child of the outermost has three levels left
 abbrev pub nestedLevels : ℕ
-nestedLevels = 3
+nestedLevels = deepest - 1

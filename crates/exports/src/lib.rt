@@ -280,7 +280,7 @@ fn carried_number(answer: CallAnswer) -> u64
     }
 }
 
-fn put_value(bytes: [u8; 48], out: &mut [u8])
+fn put_value(bytes: [u8; panel::VALUE_SIZE], out: &mut [u8])
     ensures { λ _. ⌜ now (out .exit) ≡ sets (now (out .entry)) 24 bytes ⌝ }
 {
     fields::store::put(&bytes[..], 24, out);

@@ -30,7 +30,7 @@ unfoldable pub textOf : List ℕ → List ℕ
 textOf [] = []
 textOf (b ∷ bs) = cond (eqb b 0) [] (b ∷ textOf bs)
 
--- the bytes after the first 0: the rest of a field, what follows the first name of a table
+-- the bytes after the first 0: what follows the first name of a table
 unfoldable pub pastText : List ℕ → List ℕ
 pastText [] = []
 pastText (b ∷ bs) = cond (eqb b 0) bs (pastText bs)

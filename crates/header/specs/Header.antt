@@ -63,13 +63,13 @@ pub record HeaderFits (h : Header) : Type 0 where
   pub crc-fits : h .crc < 256 ^ 8
 
 -- the largest body (rule 3.3)
-abbrev pub limit : ℕ
-limit = 16777216
+abbrev pub bodyLimit : ℕ
+bodyLimit = 16777216
 
 -- a well formed header: besides, the body's size keeps the limit
 pub record WellHeader (h : Header) : Type 0 where
   pub fits : HeaderFits h
-  pub size-limit : h .bodySize ≤ limit
+  pub size-limit : h .bodySize ≤ bodyLimit
 
 -- ---- rests
 

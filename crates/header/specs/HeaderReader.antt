@@ -10,7 +10,7 @@ use Rattle.fields.specs.Text.{textOf, allZero, textOk}
 use Rattle.fields.specs.Received.{restOf}
 use Rattle.fields.specs.Checks.{orElse}
 use Rattle.header.specs.declared.HeaderRead.{HeaderRead}
-use Rattle.header.specs.Header.{headerSize, typeSize, nameSize, Header, limit}
+use Rattle.header.specs.Header.{headerSize, typeSize, nameSize, Header, bodyLimit}
 
 -- the header that stands at the front of these bytes
 unfoldable pub headerOf : List ℕ → Header
@@ -36,7 +36,7 @@ textsFault s = cond (textOk (part typeSize 2 s) && textOk (part nameSize 14 s)) 
 
 -- check 3: BODY_SIZE breaks rule 3.3
 unfoldable pub limitFault : ℕ → ℕ
-limitFault n = cond (leb n limit) 0 3
+limitFault n = cond (leb n bodyLimit) 0 3
 
 unfoldable pub headerFault : List ℕ → ℕ
 headerFault s = orElse (shortFault s) (orElse (textsFault s) (limitFault (headerOf s .bodySize)))

@@ -15,7 +15,7 @@ use Rattle.fields.specs.Text.{Text}
 use Rattle.fields.specs.Received.{Rest}
 use Rattle.fields.specs.Answer.{writtenNumber}
 use Rattle.fields.specs.Writers.{writerFault}
-use Rattle.header.specs.Header.{Header, WellTexts, HeaderFits, WellHeader, encodeHeader, limit, cleanedHeader, CleanHeader}
+use Rattle.header.specs.Header.{Header, WellTexts, HeaderFits, WellHeader, encodeHeader, bodyLimit, cleanedHeader, CleanHeader}
 use Rattle.header.specs.HeaderReader.{headerOf, headerFault, handed, refused, headerRead, typeIn, nameIn}
 use Rattle.header.specs.HeaderWriter.{given, headerWritten, headerOut, HeaderPromise}
 
@@ -58,7 +58,7 @@ pub record HeaderTheorems : Type 0 where
   -- the number of each refusal, in the order of rule 5.2
   pub short : (s : List ℕ) → length s < 58 → headerRead s ≡ refused 1
   pub no-text : (s : List ℕ) → 58 ≤ length s → (TextsHeld s → ⊥) → headerRead s ≡ refused 2
-  pub too-long : (s : List ℕ) → 58 ≤ length s → TextsHeld s → limit < beAt 8 42 s → headerRead s ≡ refused 3
+  pub too-long : (s : List ℕ) → 58 ≤ length s → TextsHeld s → bodyLimit < beAt 8 42 s → headerRead s ≡ refused 3
   -- a refusal hands out its number and nothing else, and names no texts
   pub nothing-handed : (s : List ℕ) → (headerFault s ≡ 0 → ⊥)
       → headerRead s

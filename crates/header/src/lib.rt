@@ -18,7 +18,7 @@ ghost use mathlib.Core.Path.{_≡_};
 ghost use Rattle.fields.specs.Checks.{orElse};
 ghost use Rattle.fields.specs.Answer.{roomFault};
 ghost use Rattle.fields.specs.Layout.{stores};
-ghost use Rattle.header.specs.Header.{headerWidths};
+ghost use Rattle.header.specs.Header.{headerSize, headerWidths};
 ghost use Rattle.header.specs.HeaderReader.{headerOf, limitFault, handedWith, refused, headerRead, typeIn, nameIn};
 ghost use Rattle.header.specs.HeaderWriter.{namesFault, given, givenFields, HeaderPromise};
 
@@ -163,7 +163,7 @@ pub fn names_fault(type_text: &[u8], device_name: &[u8]) -> u8
 
 // 2, 3, then 20 for a buffer of this length.
 fn write_fault(header: HeaderFields, type_text: &[u8], device_name: &[u8], room: usize) -> u8
-    ensures { λ r. ⌜ r ≡ orElse (namesFault (now («type_text» .entry)) (now («device_name» .entry))) (orElse (limitFault (header .«body_size»)) (roomFault 58 room)) ⌝ }
+    ensures { λ r. ⌜ r ≡ orElse (namesFault (now («type_text» .entry)) (now («device_name» .entry))) (orElse (limitFault (header .«body_size»)) (roomFault headerSize room)) ⌝ }
 {
     let names = names_fault(type_text, device_name);
     if names != 0 {

@@ -5,6 +5,7 @@ use mathlib.Core.List.{List, _++_}
 use mathlib.Core.Option.{Option, none, some}
 use lib.ListN.{length, take, replicate}
 use Rattle.fields.specs.Bytes.{Bytes}
+use Rattle.pose.specs.Transform.{transformSize}
 use Rattle.message.specs.declared.Layout.{Layout}
 
 -- how many tiles there may be (check 18), and how many milliseconds a hold time may have (rule 7.3)
@@ -16,7 +17,7 @@ holdLimit = 60000
 
 -- how many bytes a value is handed out in: those of a TRANSFORM, the longest content of a tile (rule 7.7)
 abbrev pub valueSize : ℕ
-valueSize = 48
+valueSize = transformSize
 
 pub data Call : Type 0 where
   add : (typeText name : List ℕ) (holdTime : ℕ) → Call

@@ -29,7 +29,7 @@ use Rattle.content.specs.Kinds.{transformText, bindText, kindOf}
 use Rattle.content.specs.ContentCheck.{childrenFault, bindFault, contentFault, childrenClean, bindClean, contentClean}
 use Rattle.content.specs.Tree as tree
 use Rattle.content.specs.Examples.{innerRest, outerRest}
-use Rattle.cleaning.specs.CleanBytes.{cleanHeaders, cleanFront, cleanDatas, cleanBind, cleanBytes}
+use Rattle.cleaning.specs.CleanBytes.{cleanHeaders, cleanFront, cleanBlocks, cleanBind, cleanBytes}
 use Rattle.message.specs.declared.Layout.{Layout}
 use Rattle.message.specs.declared.Layout.the-variants.{New, Old}
 use Rattle.message.specs.Body.{encodeBody}
@@ -109,7 +109,7 @@ bundle-well l =
     }
 
 pub received-samples : ReceivedSamples
-unfolding encodeWith encodeHeader encodeBody encodeMetadata tree.encode tree.cleaned wordBytes flat beBytes textBytes fieldBytes sized crcOf bits bitsOf bitAt run bitStep readOf streamFault stepOf frontFault bodyFault bodyClean foundFault sizesFault sectionsFault crcFault versionFault wholeFault placesOf extendedFault extendedOk contentFault contentClean kindOf transformFault metadataFault sectionOk entriesOk entryOk indexSizeIn headerOf shortFault textsFault limitFault headerFault beVal textOf pastText allZero textOk textClean fieldOk isText allOf same padded childHeader childName childData nameTable encodeChildren typesOk typesClean nameOk namesOk tableOk padOk blockOk dataOk layoutOk layoutFault childrenFault bindFault childrenClean bindClean cleanHeaders cleanFront cleanDatas cleanBind cleanBytes writtenBy outBy givenFault givenSectionsFault fitFault fits namesFault roomFault
+unfolding encodeWith encodeHeader encodeBody encodeMetadata tree.encode tree.cleaned wordBytes flat beBytes textBytes fieldBytes sized crcOf bits bitsOf bitAt run bitStep readOf streamFault stepOf frontFault bodyFault bodyClean foundFault sizesFault sectionsFault crcFault versionFault wholeFault placesOf extendedFault extendedOk contentFault contentClean kindOf transformFault metadataFault sectionOk entriesOk entryOk indexSizeIn headerOf shortFault textsFault limitFault headerFault beVal textOf pastText allZero textOk textClean fieldOk isText allOf same padded childHeader childName childData nameTable encodeChildren typesOk typesClean nameOk namesOk tableOk padOk blockOk dataOk layoutOk layoutFault childrenFault bindFault childrenClean bindClean cleanHeaders cleanFront cleanBlocks cleanBind cleanBytes writtenBy outBy givenFault givenSectionsFault fitFault fits namesFault roomFault
 received-samples =
     record {
       tracker = λ l.

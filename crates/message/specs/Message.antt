@@ -6,7 +6,7 @@ use mathlib.Core.List.{List, _++_}
 use lib.ListN.{length}
 use Rattle.crc64.specs.Crc.{crcOf}
 use Rattle.fields.specs.Received.{zeroed, Fills}
-use Rattle.header.specs.Header.{typeSize, nameSize, Header, encodeHeader, limit}
+use Rattle.header.specs.Header.{typeSize, nameSize, Header, encodeHeader, bodyLimit}
 use Rattle.metadata.specs.Metadata.{Metadata, WellMetadata, encodeMetadata, indexSize}
 use Rattle.content.specs.Tree.{Content, typeText}
 use Rattle.content.specs.Tree as tree
@@ -92,7 +92,7 @@ pub record WellFormed (l : Layout) (m : Message) : Type 0 where
   pub sections : WellSections l (m .version) (indexSize (m .metadata)) (partsOf m .sections)
   pub content : tree.WellFormed (m .content) deepest
   pub metadata : WellMetadata (m .metadata)
-  pub size-limit : length (messageBody l m) ≤ limit
+  pub size-limit : length (messageBody l m) ≤ bodyLimit
 
 -- ---- the rests
 

@@ -11,7 +11,7 @@ use Rattle.fields.specs.Numbers.{beAt}
 use Rattle.fields.specs.Checks.{orElse}
 use Rattle.fields.specs.Answer.{writtenNumber, writtenCount, roomFault}
 use Rattle.crc64.specs.Crc.{crcOf}
-use Rattle.header.specs.Header.{Header, WellTexts, WellHeader, encodeHeader, limit}
+use Rattle.header.specs.Header.{Header, WellTexts, WellHeader, encodeHeader, bodyLimit}
 use Rattle.header.specs.HeaderTheorems.{BeginsWith, TextsHeld}
 use Rattle.metadata.specs.MetadataCheck.{indexCount, indexSizeIn}
 use Rattle.metadata.specs.MetadataTheorems.{IsMetadata}
@@ -69,7 +69,7 @@ numberAndStep a =
 pub record Refusals (l : Layout) : Type 0 where
   pub short : (s : List ℕ) → length s < 58 → readOf l s ≡ refused 1 0
   pub no-text : (s : List ℕ) → 58 ≤ length s → (TextsHeld s → ⊥) → readOf l s ≡ refused 2 0
-  pub too-long : (s : List ℕ) → 58 ≤ length s → TextsHeld s → limit < beAt 8 42 s → readOf l s ≡ refused 3 0
+  pub too-long : (s : List ℕ) → 58 ≤ length s → TextsHeld s → bodyLimit < beAt 8 42 s → readOf l s ≡ refused 3 0
   pub cut-short : (s : List ℕ) (h : Header) → BeginsWith s h → length s < 58 + h .bodySize → readOf l s ≡ refused 1 0
   pub version : (s : List ℕ) (h : Header) (b : List ℕ) → Whole s h b → (h .version ≡ 1 → ⊥) → (h .version ≡ 2 → ⊥)
       → readOf l s ≡ refused 4 (58 + h .bodySize)
@@ -126,11 +126,11 @@ pub record ReadBack (l : Layout) (p : Parts) (out : List ℕ) : Type 0 where
 
 pub record WriterNumbers (l : Layout) : Type 0 where
   pub names : (p : Parts) (room : ℕ) → (WellTexts (p .typeText) (p .deviceName) → ⊥) → writtenNumber (messageWritten l p room) ≡ 2
-  pub too-long : (p : Parts) (room : ℕ) → WellTexts (p .typeText) (p .deviceName) → limit < length (bodyGiven l p)
+  pub too-long : (p : Parts) (room : ℕ) → WellTexts (p .typeText) (p .deviceName) → bodyLimit < length (bodyGiven l p)
       → writtenNumber (messageWritten l p room) ≡ 3
-  pub unfit : (p : Parts) (room : ℕ) → WellTexts (p .typeText) (p .deviceName) → length (bodyGiven l p) ≤ limit → Unfit l (p .version) (p .sections)
+  pub unfit : (p : Parts) (room : ℕ) → WellTexts (p .typeText) (p .deviceName) → length (bodyGiven l p) ≤ bodyLimit → Unfit l (p .version) (p .sections)
       → writtenNumber (messageWritten l p room) ≡ 6
-  pub no-metadata : (p : Parts) (room : ℕ) → WellTexts (p .typeText) (p .deviceName) → length (bodyGiven l p) ≤ limit → IsVersion (p .version)
+  pub no-metadata : (p : Parts) (room : ℕ) → WellTexts (p .typeText) (p .deviceName) → length (bodyGiven l p) ≤ bodyLimit → IsVersion (p .version)
       → (Unfit l (p .version) (p .sections) → ⊥) → Bytes (p .sections .metadata) → (IsMetadata (p .sections .metadata) → ⊥)
       → writtenNumber (messageWritten l p room) ≡ 7
   -- else the reader's number for the message with its content as given, then 20

@@ -10,7 +10,7 @@ use Rattle.fields.specs.declared.Written.{Written}
 use Rattle.fields.specs.Numbers.{sizeLimit}
 use Rattle.fields.specs.Checks.{orElse}
 use Rattle.fields.specs.Writers.{writtenBy, outBy, WriterPromise}
-use Rattle.header.specs.Header.{headerSize, typeSize, nameSize, limit}
+use Rattle.header.specs.Header.{headerSize, typeSize, nameSize, bodyLimit}
 use Rattle.header.specs.declared.HeaderFields.{HeaderFields}
 use Rattle.header.specs.HeaderReader.{limitFault}
 use Rattle.header.specs.HeaderWriter.{namesFault}
@@ -56,7 +56,7 @@ bodyLength version further content metadata = cond (eqb version 2) (extendedLeas
 abbrev pub BodyFits : Layout → ℕ → List ℕ → List ℕ → List ℕ → ℕ → Type 0
 BodyFits l version further content metadata room =
     (version ≡ 2 → (extendedLeast + length further ≤ sizeLimit) × MetadataFits l (indexSizeIn metadata) (length metadata))
-    × (length content ≤ limit)
+    × (length content ≤ bodyLimit)
     × (bodyLength version (length further) (length content) (length metadata) ≤ room)
 
 -- the body that is written from MSG_ID, the type's text, further bytes, content and metadata: the content cleaned

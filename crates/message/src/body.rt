@@ -12,7 +12,7 @@ ghost use lib.ListN.{length};
 ghost use lib.Seq.{sets};
 ghost use Rattle.message.specs.MessageReader.{extendedSize, sectionSize, extendedOk, extendedFault, sizesFault, placesOf};
 ghost use Rattle.message.specs.MessageWriter.{bodyLength, BodyFits, bodyWritten, fits};
-ghost use Rattle.header.specs.Header.{limit};
+ghost use Rattle.header.specs.Header.{bodyLimit};
 ghost use lib.Dec.{leb};
 
 // The bytes of an extended header without further bytes, which is the least EXT_HEADER_SIZE (rule 3.6), and how many further bytes its two bytes
@@ -101,7 +101,7 @@ pub(crate) fn sections(layout: Layout, version: u16, body: &[u8]) -> Places
     let size = be16(body, 0) as usize;
     let metadata_len = extended::section_size(layout, body);
     Places {
-        id: extended::id_of(layout, body),
+        id: extended::id_at(layout, body),
         further_at: EXTENDED_LEAST,
         further_len: left(size, EXTENDED_LEAST),
         content_at: size,
@@ -115,7 +115,7 @@ pub(crate) fn sections(layout: Layout, version: u16, body: &[u8]) -> Places
 
 // Do sections of these lengths keep the limit? Each length is compared first, so that their sum does not wrap.
 pub(crate) fn within_limit(version: u16, further: usize, content: usize, metadata: usize) -> bool
-    ensures { λ r. ⌜ r ≡ leb (bodyLength version further content metadata) limit ⌝ }
+    ensures { λ r. ⌜ r ≡ leb (bodyLength version further content metadata) bodyLimit ⌝ }
 {
     if BODY_LIMIT < content {
         return false;
@@ -134,9 +134,9 @@ pub(crate) fn within_limit(version: u16, further: usize, content: usize, metadat
 
 // The body's length, for sections that keep the limit.
 pub(crate) fn body_len(version: u16, further: usize, content: usize, metadata: usize) -> usize
-    requires { ⌜ bodyLength version further content metadata ≤ limit ⌝ }
+    requires { ⌜ bodyLength version further content metadata ≤ bodyLimit ⌝ }
     ensures value { λ r. ⌜ r ≡ bodyLength version further content metadata ⌝ }
-    ensures bound { λ r. ⌜ r ≤ limit ⌝ }
+    ensures bound { λ r. ⌜ r ≤ bodyLimit ⌝ }
 {
     if version != 2 {
         return content;

@@ -27,7 +27,7 @@ pub(crate) fn section_size(layout: Layout, body: &[u8]) -> usize
 }
 
 // MSG_ID.
-pub(crate) fn id_of(layout: Layout, body: &[u8]) -> u32
+pub(crate) fn id_at(layout: Layout, body: &[u8]) -> u32
     ensures { λ r. ⌜ r ≡ idAt layout (now (body .entry)) ⌝ }
 {
     match layout {

@@ -11,7 +11,7 @@ ghost use mathlib.Core.Path.{_≡_};
 ghost use Prim.Native.Nat.{_+_, _≤_};
 ghost use mathlib.Core.List.{_++_};
 ghost use lib.ListN.{length, drop};
-ghost use Rattle.header.specs.Header.{headerSize, limit};
+ghost use Rattle.header.specs.Header.{headerSize, bodyLimit};
 ghost use Rattle.message.specs.LayoutNumber.{layoutOf};
 ghost use Rattle.message.specs.MessageReader.{versionFault, contentsFault, contentsChecked, bodyChecked, placesOf, Within, refused, accepted, readOf, typeIn, nameIn, furtherIn, contentIn, metadataIn};
 ghost use Rattle.message.specs.MessageWriter.{given, sectionsGiven, givenSectionsFault, givenFault, messageBytes, MessageFits, headerGiven, MessagePromise};
@@ -152,7 +152,7 @@ fn body_check(
 
 // The answer to an accepted message with this mark, whose sections stand at these places of its body.
 fn accept(header: header::HeaderRead, places: Places, clean: bool) -> Answer
-    requires { ⌜ (header .«body_size» ≤ limit) × Within places (header .«body_size») ⌝ }
+    requires { ⌜ (header .«body_size» ≤ bodyLimit) × Within places (header .«body_size») ⌝ }
     ensures { λ r. ⌜ r ≡ accepted header places clean ⌝ }
 {
     Answer {

@@ -20,6 +20,10 @@ pub data Metadata : Type 0 where
   absent : Metadata
   section : List Entry → Metadata
 
+-- how many bytes the header of an entry has (rule 3.8)
+abbrev pub entryHeaderSize : ℕ
+entryHeaderSize = 8
+
 -- the sizes of key and value, with the encoding between them
 unfoldable pub entryHeader : Entry → List ℕ
 entryHeader e = join (beBytes 2 (length (e .key)) ∷ beBytes 2 (e .encoding) ∷ beBytes 4 (length (e .value)) ∷ [])
@@ -36,7 +40,7 @@ encodeMetadata (section es) = counted entryHeader es (flat entryData es)
 -- the bytes of INDEX_COUNT and the headers
 abbrev pub indexSize : Metadata → ℕ
 indexSize absent = 0
-indexSize (section es) = 2 + 8 * length es
+indexSize (section es) = 2 + entryHeaderSize * length es
 
 -- a key is a text of at least one byte; the sizes and the encoding fit their fields
 pub record WellEntry (e : Entry) : Type 0 where

@@ -7,6 +7,7 @@ use lib.ListN.{length, take, drop}
 use Rattle.fields.specs.Numbers.{beAt}
 use Rattle.fields.specs.Text.{isText}
 use Rattle.fields.specs.Tables.{itemsOk}
+use Rattle.metadata.specs.Metadata.{entryHeaderSize}
 
 -- INDEX_COUNT
 abbrev pub indexCount : List ℕ → ℕ
@@ -14,7 +15,7 @@ indexCount s = beAt 2 0 s
 
 -- the bytes of INDEX_COUNT and the headers, by INDEX_COUNT
 unfoldable pub indexSizeIn : List ℕ → ℕ
-indexSizeIn s = cond (eqb (length s) 0) 0 (2 + 8 * indexCount s)
+indexSizeIn s = cond (eqb (length s) 0) 0 (2 + entryHeaderSize * indexCount s)
 
 -- of the entry header at the front of h: KEY_SIZE, VALUE_ENCODING, VALUE_SIZE
 abbrev pub keySize : List ℕ → ℕ
@@ -37,17 +38,17 @@ entryOk h d = ltb 0 (keySize h) && (leb (entrySize h) (length d) && isText (take
 
 -- k entries, and no byte left over
 unfoldable pub entriesOk : ℕ → List ℕ → List ℕ → Bool
-entriesOk k h d = itemsOk 8 (λ h d. drop (entrySize h) d) entryOk (λ d. eqb (length d) 0) k h d
+entriesOk k h d = itemsOk entryHeaderSize (λ h d. drop (entrySize h) d) entryOk (λ d. eqb (length d) 0) k h d
 
 -- the entries' headers, and what follows them
 abbrev pub headersOf : List ℕ → List ℕ
 headersOf s = drop 2 s
 
 abbrev pub dataOf : List ℕ → List ℕ
-dataOf s = drop (2 + 8 * indexCount s) s
+dataOf s = drop (2 + entryHeaderSize * indexCount s) s
 
 unfoldable pub sectionOk : List ℕ → Bool
-sectionOk s = leb 2 (length s) && (leb (2 + 8 * indexCount s) (length s) && entriesOk (indexCount s) (headersOf s) (dataOf s))
+sectionOk s = leb 2 (length s) && (leb (2 + entryHeaderSize * indexCount s) (length s) && entriesOk (indexCount s) (headersOf s) (dataOf s))
 
 unfoldable pub metadataFault : List ℕ → ℕ
 metadataFault s = cond (eqb (length s) 0) 0 (cond (sectionOk s) 0 7)

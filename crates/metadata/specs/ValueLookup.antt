@@ -7,6 +7,7 @@ use lib.Dec.{eqb}
 use lib.ListN.{length, take, drop}
 use Rattle.fields.specs.Bytes.{part, same}
 use Rattle.metadata.specs.declared.ValuePlace.{ValuePlace}
+use Rattle.metadata.specs.Metadata.{entryHeaderSize}
 use Rattle.metadata.specs.MetadataCheck.{indexCount, keySize, encodingOf, valueSize, entrySize, headersOf, dataOf, metadataFault}
 
 -- all 0 besides the number
@@ -19,7 +20,7 @@ placeIn n zero h d x = refused 19
 placeIn n (suc k) h d x =
     cond (same (take (keySize h) d) x)
     (record { number = 0; encoding = encodingOf h; at = n - length (drop (keySize h) d); len = valueSize h })
-    (placeIn n k (drop 8 h) (drop (entrySize h) d) x)
+    (placeIn n k (drop entryHeaderSize h) (drop (entrySize h) d) x)
 
 -- the search in a section that is accepted
 abbrev pub searched : List ℕ → List ℕ → ValuePlace

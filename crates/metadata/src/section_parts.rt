@@ -1,6 +1,7 @@
 // The parts of a metadata section, of any bytes: past the end there is nothing, and a number of no bytes is 0.
 ghost use mathlib.Core.Path.{_≡_};
 ghost use lib.ListN.{drop};
+ghost use Rattle.metadata.specs.Metadata.{entryHeaderSize};
 ghost use Rattle.metadata.specs.MetadataCheck.{indexCount, keySize, encodingOf, valueSize, entrySize, headersOf, dataOf};
 
 // The bytes of an entry's header (rule 3.8).
@@ -29,7 +30,7 @@ pub(crate) fn data_of(section: &[u8]) -> &[u8]
 
 // What stands after the first header: the headers of the entries after it.
 pub(crate) fn after_header(headers: &[u8]) -> &[u8]
-    ensures { λ r. ⌜ now r ≡ drop 8 (now (headers .entry)) ⌝ }
+    ensures { λ r. ⌜ now r ≡ drop entryHeaderSize (now (headers .entry)) ⌝ }
 {
     fields::slice::rest(headers, ENTRY_HEADER_SIZE)
 }

@@ -16,6 +16,11 @@ ghost use Rattle.pose.specs.PositionWriter.{PositionPromise};
 // The bytes of a TRANSFORM (rule 4.2).
 pub const TRANSFORM_SIZE: usize = 48;
 
+// The bytes of a word, and the most words of a POSITION (rule 4.3).
+const WORD_SIZE: usize = 4;
+
+pub const MOST_WORDS: usize = 7;
+
 // The three columns of the rotation, each from its first row to its third; the translation (rule 4.2).
 pub struct Transform {
     pub column1: [u32; 3],
@@ -34,7 +39,7 @@ pub struct TransformRead {
 pub struct PositionRead {
     pub number: u8,
     pub count: usize,
-    pub words: [u32; 7],
+    pub words: [u32; MOST_WORDS],
 }
 
 // 8 where it has another length than 48.
@@ -114,7 +119,7 @@ fn put_words(words: &[u32], out: &mut [u8])
 {
     let mut i = 0;
     while i < words.len() {
-        fields::number::put32(words[i], 4 * i, out);
+        fields::number::put32(words[i], WORD_SIZE * i, out);
         i += 1;
     }
 }
@@ -156,10 +161,10 @@ fn count_fault(n: usize) -> u8
 pub fn position_fault(content: &[u8]) -> u8
     ensures { λ r. ⌜ r ≡ positionFault (now (content .entry)) ⌝ }
 {
-    if content.len() % 4 != 0 {
+    if content.len() % WORD_SIZE != 0 {
         return 8;
     }
-    count_fault(content.len() / 4)
+    count_fault(content.len() / WORD_SIZE)
 }
 
 // Seven words are read: those past the end of the content are 0.
@@ -171,7 +176,7 @@ pub fn read_position(content: &[u8]) -> PositionRead
         return PositionRead {
             number,
             count: 0,
-            words: [0u32; 7],
+            words: [0u32; MOST_WORDS],
         };
     }
     let words = [
@@ -185,7 +190,7 @@ pub fn read_position(content: &[u8]) -> PositionRead
     ];
     PositionRead {
         number: 0,
-        count: content.len() / 4,
+        count: content.len() / WORD_SIZE,
         words,
     }
 }
@@ -198,7 +203,7 @@ fn write_fault(n: usize, room: usize) -> u8
     if fault != 0 {
         return fault;
     }
-    fields::room_fault(4 * n, room)
+    fields::room_fault(WORD_SIZE * n, room)
 }
 
 // Writes 3, 6 or 7 words; any other number of them is 8, and then 20 is checked.
@@ -210,5 +215,5 @@ pub fn write_position(words: &[u32], out: &mut [u8]) -> fields::Written
         return fields::Written::Refused(fault);
     }
     put_words(words, out);
-    fields::Written::Wrote(4 * words.len())
+    fields::Written::Wrote(WORD_SIZE * words.len())
 }

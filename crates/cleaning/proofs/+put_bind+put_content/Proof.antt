@@ -13,7 +13,7 @@ use Rattle.fields.specs.Bytes.{same}
 use Rattle.bind_layout.specs.BindLayout.{dataOk, layoutFault, headers}
 use Rattle.bind_layout.proofs.Laws.Read.{data-shorter, layout-data}
 use Rattle.content.proofs.Laws.ChildrenWalk.{layout-number}
-use Rattle.cleaning.specs.CleanBytes.{cleanDatas, cleanBind}
+use Rattle.cleaning.specs.CleanBytes.{cleanBlocks, cleanBind}
 use Rattle.cleaning.proofs.Laws.CleaningWalk.{bind-deep, bind-unlaid, bind-start, datas-end, datas-walk, left-ok, left-shorter, child-fits, as-bind, as-other}
 use borrow.Fn.Kinds.{In}
 use borrow.Fn.PlainCycle.{Measures, is, falls, and}
@@ -103,8 +103,8 @@ content-claims t = (
 
 abbrev put-bind-Inv-loop : put-bind-lts.InvT-loop
 put-bind-Inv-loop content levels at out₀ h₀ d₀ left₀ out h d left =
-    (sets out₀ (at + (length content - length d₀)) (cleanDatas (cleanBind (levels - 1)) left₀ h₀ d₀)
-    ≡ sets out (at + (length content - length d)) (cleanDatas (cleanBind (levels - 1)) left h d))
+    (sets out₀ (at + (length content - length d₀)) (cleanBlocks (cleanBind (levels - 1)) left₀ h₀ d₀)
+    ≡ sets out (at + (length content - length d)) (cleanBlocks (cleanBind (levels - 1)) left h d))
     × (length out ≡ length out₀)
     × (length d + 4 ≤ length content)
     × (dataOk left h d ≡ true)

@@ -23,7 +23,7 @@ use Rattle.bind_layout.proofs.Laws.Written.{encode-front, count-bytes, headers-
 use Rattle.content.specs.Kinds.{bindText}
 use Rattle.content.specs.Tree.{Content, Children, transform, position, image, bind, other, none, more, typeText, encode, childList, WellFormed, WellChildren, cleaned, cleanedChildren}
 use Rattle.content.proofs.Laws.Cleaned.{cleaned-type}
-use Rattle.cleaning.specs.CleanBytes.{cleanHeaders, cleanFront, cleanAs, cleanDatas, cleanBind, cleanBytes, boundedLevels}
+use Rattle.cleaning.specs.CleanBytes.{cleanHeaders, cleanFront, cleanAs, cleanBlocks, cleanBind, cleanBytes, boundedLevels}
 use Rattle.cleaning.specs.CleaningTheorems.{CleaningTheorems}
 use Rattle.cleaning.proofs.Laws.Lengths.{Keeps, length-as, length-bind, length-clean}
 use Rattle.cleaning.proofs.Laws.CleaningWalk.{put-fits, put-short}
@@ -55,8 +55,8 @@ headers-cleaned f k (c ∷ cs) w r =
     ∙ sym (append-assoc (fieldBytes 12 (c .typeText) (zeroed (c .rest))) (beBytes 8 (length (cleanAs f (c .typeText) (c .content)))) (flat childHeader (map (cleanChild f) cs)))
 
 datas-cleaned : (f : List ℕ → List ℕ) → Keeps f → (cs : List Child) → Each WellChild cs → (r : List ℕ)
-    → cleanDatas f (length cs) (flat childHeader cs ++ r) (flat childData cs) ≡ flat childData (map (cleanChild f) cs)
-unfolding cleanDatas flat childData padded
+    → cleanBlocks f (length cs) (flat childHeader cs ++ r) (flat childData cs) ≡ flat childData (map (cleanChild f) cs)
+unfolding cleanBlocks flat childData padded
 datas-cleaned f k [] w r = refl
 datas-cleaned f k (c ∷ cs) w r =
     let l = flat childHeader cs ++ r in
@@ -64,12 +64,12 @@ datas-cleaned f k (c ∷ cs) w r =
     let d = flat childData cs in
     let y = cleanAs f (c .typeText) x in
     let g : List ℕ → List ℕ → ℕ → List ℕ → List ℕ =
-    λ t v n h. cleanAs f t (take n v) ++ (part (n % 2) n v ++ cleanDatas f (length cs) h (afterBlock n v)) in
+    λ t v n h. cleanAs f t (take n v) ++ (part (n % 2) n v ++ cleanBlocks f (length cs) h (afterBlock n v)) in
     ap (λ (h : List ℕ). g (typeOf h) (padded x ++ d) (sizeOf h) (drop 20 h)) (flat-cons childHeader c cs r)
     ∙ ap₂ (λ (t : List ℕ) (n : ℕ). g t (padded x ++ d) n (drop 20 (childHeader c ++ l))) (header-type c l (w .0)) (header-size c l (w .0))
     ∙ ap (g (c .typeText) (padded x ++ d) (length x)) (header-rest c l)
-    ∙ ap₂ (λ (u v : List ℕ). cleanAs f (c .typeText) u ++ (v ++ cleanDatas f (length cs) l (afterBlock (length x) (padded x ++ d)))) (block-data x d) (block-pad x d)
-    ∙ ap (λ (u : List ℕ). y ++ (replicate (length x % 2) 0 ++ cleanDatas f (length cs) l u)) (block-rest x d)
+    ∙ ap₂ (λ (u v : List ℕ). cleanAs f (c .typeText) u ++ (v ++ cleanBlocks f (length cs) l (afterBlock (length x) (padded x ++ d)))) (block-data x d) (block-pad x d)
+    ∙ ap (λ (u : List ℕ). y ++ (replicate (length x % 2) 0 ++ cleanBlocks f (length cs) l u)) (block-rest x d)
     ∙ ap₂ (λ (m : ℕ) (u : List ℕ). y ++ (replicate (m % 2) 0 ++ u)) (sym (length-as f k (c .typeText) x)) (datas-cleaned f k cs (w .1) r)
     ∙ sym (append-assoc y (replicate (length y % 2) 0) (flat childData (map (cleanChild f) cs)))
 
@@ -94,9 +94,9 @@ bind-cleaned levels cs w =
     let front = take 2 s ++ (cleanHeaders (childCount s) (headers s) ++ take (2 + tableSize s) (afterHeaders s)) in
     let h = flat childHeader ds in
     let b = beBytes 2 (length t) in
-    ap (λ (x : Bool). cond x (front ++ cleanDatas f (childCount s) (headers s) (dataOf s)) s) (eq-eqb (layoutFault s) 0 (layout-written cs w))
-    ∙ ap₂ (λ (n : ℕ) (x : List ℕ). (take 2 s ++ (cleanHeaders n (headers s) ++ take (2 + tableSize s) (afterHeaders s))) ++ cleanDatas f n (headers s) x) (count-written cs w) (data-of-written cs w)
-    ∙ ap (λ (x : List ℕ). (take 2 s ++ (cleanHeaders (length cs) x ++ take (2 + tableSize s) (afterHeaders s))) ++ cleanDatas f (length cs) x (flat childData cs)) (headers-written cs)
+    ap (λ (x : Bool). cond x (front ++ cleanBlocks f (childCount s) (headers s) (dataOf s)) s) (eq-eqb (layoutFault s) 0 (layout-written cs w))
+    ∙ ap₂ (λ (n : ℕ) (x : List ℕ). (take 2 s ++ (cleanHeaders n (headers s) ++ take (2 + tableSize s) (afterHeaders s))) ++ cleanBlocks f n (headers s) x) (count-written cs w) (data-of-written cs w)
+    ∙ ap (λ (x : List ℕ). (take 2 s ++ (cleanHeaders (length cs) x ++ take (2 + tableSize s) (afterHeaders s))) ++ cleanBlocks f (length cs) x (flat childData cs)) (headers-written cs)
     ∙ ap₂ (λ (x y : List ℕ). (take 2 s ++ (x ++ take (2 + tableSize s) (afterHeaders s))) ++ y) (headers-cleaned f k cs (w .each) _) (datas-cleaned f k cs (w .each) _)
     ∙ ap₂ (λ (x y : List ℕ). (x ++ (h ++ y)) ++ flat childData ds) (count-bytes cs) (table-bytes cs w)
     ∙ append-assoc (beBytes 2 (length cs)) (h ++ (b ++ t)) (flat childData ds)

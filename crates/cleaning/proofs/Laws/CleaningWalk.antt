@@ -17,7 +17,7 @@ use Rattle.fields.proofs.Laws.Walks.{walk-end, walk-step}
 use Rattle.bind_layout.specs.BindLayout.{childCount, headers, afterHeaders, tableSize, dataOf, typeOf, sizeOf, afterBlock, dataOk, layoutFault}
 use Rattle.bind_layout.proofs.Laws.Read.{data-next, layout-fits}
 use Rattle.content.specs.Kinds.{bindText}
-use Rattle.cleaning.specs.CleanBytes.{cleanHeaders, cleanFront, cleanAs, cleanDatas, cleanBind, cleanBytes, boundedLevels, cleanPut}
+use Rattle.cleaning.specs.CleanBytes.{cleanHeaders, cleanFront, cleanAs, cleanBlocks, cleanBind, cleanBytes, boundedLevels, cleanPut}
 use Rattle.cleaning.proofs.Laws.Lengths.{Keeps, length-headers, length-as, length-front, length-bind}
 
 -- three runs, each where the one before it ends, are one
@@ -84,51 +84,51 @@ bind-deep zero s e = refl
 bind-deep (suc levels) s e = absurd (omega arith)
 
 module _ (levels : ℕ) (s : List ℕ) (n : levels ≡ 0 → ⊥) where
-  bind-step : cleanBind levels s ≡ cond (eqb (layoutFault s) 0) (cleanFront s ++ cleanDatas (cleanBind (levels - 1)) (childCount s) (headers s) (dataOf s)) s
+  bind-step : cleanBind levels s ≡ cond (eqb (layoutFault s) 0) (cleanFront s ++ cleanBlocks (cleanBind (levels - 1)) (childCount s) (headers s) (dataOf s)) s
   unfolding cleanBind
   bind-step = let e : levels ≡ suc (levels - 1) = omega arith in ap (λ (l : ℕ). cleanBind l s) e
 
   pub bind-unlaid : (layoutFault s ≡ 0 → ⊥) → cleanBind levels s ≡ s
   bind-unlaid h =
       bind-step
-      ∙ ap (λ (b : Bool). cond b (cleanFront s ++ cleanDatas (cleanBind (levels - 1)) (childCount s) (headers s) (dataOf s)) s) (ne-eqb (layoutFault s) 0 h)
+      ∙ ap (λ (b : Bool). cond b (cleanFront s ++ cleanBlocks (cleanBind (levels - 1)) (childCount s) (headers s) (dataOf s)) s) (ne-eqb (layoutFault s) 0 h)
 
   -- the front is written, the data is left
   pub bind-laid : (out : List ℕ) (at : ℕ) → layoutFault s ≡ 0
       → sets out at (cleanBind levels s)
-      ≡ sets (sets out at (cleanFront s)) (at + (length s - length (dataOf s))) (cleanDatas (cleanBind (levels - 1)) (childCount s) (headers s) (dataOf s))
+      ≡ sets (sets out at (cleanFront s)) (at + (length s - length (dataOf s))) (cleanBlocks (cleanBind (levels - 1)) (childCount s) (headers s) (dataOf s))
   bind-laid out at h =
-      let ds = cleanDatas (cleanBind (levels - 1)) (childCount s) (headers s) (dataOf s) in
+      let ds = cleanBlocks (cleanBind (levels - 1)) (childCount s) (headers s) (dataOf s) in
       let e : length (cleanFront s) ≡ length s - length (dataOf s) = omega (arith, length-front s h) in
       ap (sets out at)
       (bind-step ∙ ap (λ (b : Bool). cond b (cleanFront s ++ ds) s) (eq-eqb (layoutFault s) 0 h))
       ∙ sets-append out at (cleanFront s) ds
       ∙ ap (λ (m : ℕ). sets (sets out at (cleanFront s)) (at + m) ds) e
 
-pub datas-end : (levels k : ℕ) (h d : List ℕ) → k ≤ 0 → cleanDatas (cleanBind levels) k h d ≡ []
-unfolding cleanDatas
-datas-end levels k h d p = walk-end (λ n. cleanDatas (cleanBind levels) n h d) k p
+pub datas-end : (levels k : ℕ) (h d : List ℕ) → k ≤ 0 → cleanBlocks (cleanBind levels) k h d ≡ []
+unfolding cleanBlocks
+datas-end levels k h d p = walk-end (λ n. cleanBlocks (cleanBind levels) n h d) k p
 
 -- one child more, stored in two runs
 pub datas-next : (f : List ℕ → List ℕ) → Keeps f → (out : List ℕ) (to k : ℕ) (h d : List ℕ) → 0 < k → sizeOf h ≤ length d
     → sizeOf h % 2 ≤ length (drop (sizeOf h) d)
-    → sets out to (cleanDatas f k h d)
-    ≡ sets (sets (sets out to (cleanAs f (typeOf h) (take (sizeOf h) d))) (to + sizeOf h) (part (sizeOf h % 2) (sizeOf h) d)) (to + sizeOf h + sizeOf h % 2) (cleanDatas f (k - 1) (drop 20 h) (afterBlock (sizeOf h) d))
-unfolding cleanDatas
+    → sets out to (cleanBlocks f k h d)
+    ≡ sets (sets (sets out to (cleanAs f (typeOf h) (take (sizeOf h) d))) (to + sizeOf h) (part (sizeOf h % 2) (sizeOf h) d)) (to + sizeOf h + sizeOf h % 2) (cleanBlocks f (k - 1) (drop 20 h) (afterBlock (sizeOf h) d))
+unfolding cleanBlocks
 datas-next f keeps out to k h d p fits pad =
     let n = sizeOf h in
-    ap (sets out to) (walk-step (λ m. cleanDatas f m h d) k p)
-    ∙ sets-three out to n (n % 2) (cleanAs f (typeOf h) (take n d)) (part (n % 2) n d) (cleanDatas f (k - 1) (drop 20 h) (afterBlock n d)) (length-as f keeps (typeOf h) (take n d) ∙ length-take-le n d fits) (length-take-le (n % 2) (drop n d) pad)
+    ap (sets out to) (walk-step (λ m. cleanBlocks f m h d) k p)
+    ∙ sets-three out to n (n % 2) (cleanAs f (typeOf h) (take n d)) (part (n % 2) n d) (cleanBlocks f (k - 1) (drop 20 h) (afterBlock n d)) (length-as f keeps (typeOf h) (take n d) ∙ length-take-le n d fits) (length-take-le (n % 2) (drop n d) pad)
 
 -- the same two as the loop meets them
 pub bind-start : (levels : ℕ) (s out o hs ds : List ℕ) (at k : ℕ) → (levels ≡ 0 → ⊥) → layoutFault s ≡ 0 → o ≡ sets out at (cleanFront s)
     → hs ≡ headers s → ds ≡ dataOf s → k ≡ childCount s
-    → sets out at (cleanBind levels s) ≡ sets o (at + (length s - length ds)) (cleanDatas (cleanBind (levels - 1)) k hs ds)
+    → sets out at (cleanBind levels s) ≡ sets o (at + (length s - length ds)) (cleanBlocks (cleanBind (levels - 1)) k hs ds)
 bind-start levels s out o hs ds at k n h e₁ e₂ e₃ e₄ =
     let f = cleanBind (levels - 1) in
     bind-laid levels s n out at h
-    ∙ ap₂ (λ (u v : List ℕ). sets u (at + (length s - length v)) (cleanDatas f (childCount s) (headers s) v)) (sym e₁) (sym e₃)
-    ∙ ap₂ (λ (j : ℕ) (u : List ℕ). sets o (at + (length s - length ds)) (cleanDatas f j u ds)) (sym e₄) (sym e₂)
+    ∙ ap₂ (λ (u v : List ℕ). sets u (at + (length s - length v)) (cleanBlocks f (childCount s) (headers s) v)) (sym e₁) (sym e₃)
+    ∙ ap₂ (λ (j : ℕ) (u : List ℕ). sets o (at + (length s - length ds)) (cleanBlocks f j u ds)) (sym e₄) (sym e₂)
 
 module _ (l : ℕ) (whole out o q h d t x p hs ds : List ℕ) (at L k n : ℕ) (z : 0 < k) (ok : dataOk k h d ≡ true) (fits : length d ≤ L) (size : n ≡ sizeOf h) (child : x ≡ take n d) where
   datas-place : ds ≡ afterBlock n d → at + (L - length d) + sizeOf h + sizeOf h % 2 ≡ at + (L - length ds)
@@ -147,9 +147,9 @@ module _ (l : ℕ) (whole out o q h d t x p hs ds : List ℕ) (at L k n : ℕ) (
   child-length : length x ≡ sizeOf h
   child-length = ap length (child ∙ ap (λ (m : ℕ). take m d) size) ∙ length-take-le (sizeOf h) d (data-next k h d z ok .0)
 
-  pub datas-walk : whole ≡ sets out (at + (L - length d)) (cleanDatas (cleanBind l) k h d) → o ≡ sets out (at + (L - length d)) (cleanBytes l t x) → t ≡ typeOf h
+  pub datas-walk : whole ≡ sets out (at + (L - length d)) (cleanBlocks (cleanBind l) k h d) → o ≡ sets out (at + (L - length d)) (cleanBytes l t x) → t ≡ typeOf h
       → q ≡ sets o (at + (L - length d) + length x) p → p ≡ part (n % 2) n d → hs ≡ drop 20 h → ds ≡ afterBlock n d
-      → whole ≡ sets q (at + (L - length ds)) (cleanDatas (cleanBind l) (k - 1) hs ds)
+      → whole ≡ sets q (at + (L - length ds)) (cleanBlocks (cleanBind l) (k - 1) hs ds)
   unfolding cleanBytes
   datas-walk w e₁ e₂ e₃ e₄ e₅ e₆ =
       let to = at + (L - length d) in
@@ -162,8 +162,8 @@ module _ (l : ℕ) (whole out o q h d t x p hs ds : List ℕ) (at L k n : ℕ) (
       e₃ ∙ ap₂ (λ (u : List ℕ) (j : ℕ). sets u (to + j) p) first child-length ∙ ap (sets _ (to + m)) (e₄ ∙ ap (λ (j : ℕ). part (j % 2) j d) size) in
       w
       ∙ datas-next f (length-bind l) out to k h d z (b .0) (b .1)
-      ∙ ap₂ (λ (u : List ℕ) (j : ℕ). sets u j (cleanDatas f (k - 1) (drop 20 h) (afterBlock m d))) (sym second) (datas-place e₆)
-      ∙ ap₂ (λ (u v : List ℕ). sets q (at + (L - length ds)) (cleanDatas f (k - 1) u v)) (sym e₅) (sym (e₆ ∙ ap (λ (j : ℕ). afterBlock j d) size))
+      ∙ ap₂ (λ (u : List ℕ) (j : ℕ). sets u j (cleanBlocks f (k - 1) (drop 20 h) (afterBlock m d))) (sym second) (datas-place e₆)
+      ∙ ap₂ (λ (u v : List ℕ). sets q (at + (L - length ds)) (cleanBlocks f (k - 1) u v)) (sym e₅) (sym (e₆ ∙ ap (λ (j : ℕ). afterBlock j d) size))
 
   -- what is left is as it should be, and is shorter
   pub left-ok : hs ≡ drop 20 h → ds ≡ afterBlock n d → dataOk (k - 1) hs ds ≡ true

@@ -16,7 +16,7 @@ use Rattle.fields.proofs.Laws.Text.{length-textBytes}
 use Rattle.bind_layout.specs.BindLayout.{childCount, headers, afterHeaders, tableSize, dataOf, typeOf, sizeOf, afterBlock, dataOk, layoutFault}
 use Rattle.bind_layout.proofs.Laws.Read.{data-end, data-step, layout-fits, layout-data}
 use Rattle.content.specs.Kinds.{bindText}
-use Rattle.cleaning.specs.CleanBytes.{cleanHeaders, cleanFront, cleanAs, cleanDatas, cleanBind, cleanBytes}
+use Rattle.cleaning.specs.CleanBytes.{cleanHeaders, cleanFront, cleanAs, cleanBlocks, cleanBind, cleanBytes}
 
 -- f keeps the length of any bytes
 abbrev pub Keeps : (List ℕ → List ℕ) → Type 0
@@ -45,14 +45,14 @@ length-as f k t s =
     (λ e. ap (λ (b : Bool). length (cond b (f s) s)) e ∙ k s)
     (λ e. ap (λ (b : Bool). length (cond b (f s) s)) e)
 
-pub length-datas : (f : List ℕ → List ℕ) → Keeps f → (k : ℕ) (h d : List ℕ) → dataOk k h d ≡ true → length (cleanDatas f k h d) ≡ length d
-unfolding cleanDatas
+pub length-datas : (f : List ℕ → List ℕ) → Keeps f → (k : ℕ) (h d : List ℕ) → dataOk k h d ≡ true → length (cleanBlocks f k h d) ≡ length d
+unfolding cleanBlocks
 length-datas f p zero h d e = sym (data-end h d e)
 length-datas f p (suc k) h d e =
     let n = sizeOf h in
     let x = cleanAs f (typeOf h) (take n d) in
     let y = part (n % 2) n d in
-    let z = cleanDatas f k (drop 20 h) (afterBlock n d) in
+    let z = cleanBlocks f k (drop 20 h) (afterBlock n d) in
     let q = data-step k h d e in
     omega (
       arith,
@@ -95,7 +95,7 @@ unfolding cleanBind
 length-bind zero s = refl
 length-bind (suc levels) s =
     let f = cleanFront s in
-    let d = cleanDatas (cleanBind levels) (childCount s) (headers s) (dataOf s) in
+    let d = cleanBlocks (cleanBind levels) (childCount s) (headers s) (dataOf s) in
     by-test (eqb (layoutFault s) 0)
     (λ e.
     let h = eqb-true (layoutFault s) 0 e in

@@ -10,7 +10,7 @@ use borrow.Author.Tests.{eq-eqb, ne-eqb, lt-ltb, le-ltb}
 use Rattle.fields.specs.Answer.{roomFault}
 use Rattle.fields.proofs.Laws.Stores.{take-sets, sets-over}
 use Rattle.fields.proofs.Laws.Tests.{cond-yes, cond-no}
-use Rattle.header.specs.Header.{limit}
+use Rattle.header.specs.Header.{bodyLimit}
 use Rattle.header.specs.declared.HeaderRead.{HeaderRead}
 use Rattle.header.specs.HeaderReader.{headerOf, headerFault, headerRead}
 use Rattle.header.proofs.Laws.Faults.{fault-passed, header-read-passed, header-read-number}
@@ -103,7 +103,7 @@ module _ (l : Layout) (k : ℕ) (s buf : List ℕ) (inside : k ≤ length buf) w
       size-is : r .«body_size» ≡ headerOf out .bodySize
       size-is = ap (λ (q : HeaderRead). q .«body_size») (er ∙ header-read-passed out (same .0 ∙ right))
 
-      pub size-limit : r .«body_size» ≤ limit
+      pub size-limit : r .«body_size» ≤ bodyLimit
       size-limit = omega (arith, size-is, fault-passed out (same .0 ∙ right) .size-limit)
 
       end-is : 58 + r .«body_size» ≡ endOf (take k buf ++ s)

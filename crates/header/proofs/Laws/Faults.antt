@@ -15,7 +15,7 @@ use Rattle.fields.proofs.Laws.Received.{read-len, fieldOk-rest}
 use Rattle.fields.proofs.Laws.Tests.{by-zero}
 use Rattle.fields.proofs.Laws.Text.{is-text, text-is}
 use Rattle.header.specs.declared.HeaderRead.{HeaderRead}
-use Rattle.header.specs.Header.{WellTexts, limit}
+use Rattle.header.specs.Header.{WellTexts, bodyLimit}
 use Rattle.header.specs.HeaderReader.{headerOf, shortFault, textsFault, limitFault, headerFault, handedWith, handed, refused, headerRead}
 use Rattle.header.specs.HeaderWriter.{namesFault}
 
@@ -80,17 +80,17 @@ names-broken t n h = names-refused t n (λ e. h (names-passed t n e))
 
 -- ---- check 3
 
-pub limit-pass : (n : ℕ) → n ≤ limit → limitFault n ≡ 0
+pub limit-pass : (n : ℕ) → n ≤ bodyLimit → limitFault n ≡ 0
 unfolding limitFault
-limit-pass n h = ap (λ (t : Bool). cond t 0 3) (le-leb n limit h)
+limit-pass n h = ap (λ (t : Bool). cond t 0 3) (le-leb n bodyLimit h)
 
-pub limit-passed : (n : ℕ) → limitFault n ≡ 0 → n ≤ limit
+pub limit-passed : (n : ℕ) → limitFault n ≡ 0 → n ≤ bodyLimit
 unfolding limitFault
-limit-passed n h = leb-true n limit (cond-pass (leb n limit) 2 0 h .0)
+limit-passed n h = leb-true n bodyLimit (cond-pass (leb n bodyLimit) 2 0 h .0)
 
-pub limit-refused : (n : ℕ) → limit < n → limitFault n ≡ 3
+pub limit-refused : (n : ℕ) → bodyLimit < n → limitFault n ≡ 3
 unfolding limitFault
-limit-refused n h = ap (λ (t : Bool). cond t 0 3) (lt-leb n limit h)
+limit-refused n h = ap (λ (t : Bool). cond t 0 3) (lt-leb n bodyLimit h)
 
 -- ---- the three in order
 
@@ -99,7 +99,7 @@ pub record Passed (s : List ℕ) : Type 0 where
   pub long : 58 ≤ length s
   pub type-ok : textOk (part 12 2 s) ≡ true
   pub name-ok : textOk (part 20 14 s) ≡ true
-  pub size-limit : headerOf s .bodySize ≤ limit
+  pub size-limit : headerOf s .bodySize ≤ bodyLimit
 
 pub fault-passed : (s : List ℕ) → headerFault s ≡ 0 → Passed s
 unfolding headerFault

@@ -13,7 +13,7 @@ use Rattle.fields.specs.Received.{restOf}
 use Rattle.fields.specs.Checks.{orElse}
 use Rattle.fields.proofs.Laws.Bytes.{front-part}
 use Rattle.fields.proofs.Laws.Tests.{by-test, by-zero}
-use Rattle.header.specs.Header.{limit}
+use Rattle.header.specs.Header.{bodyLimit}
 use Rattle.header.specs.HeaderReader.{headerOf, shortFault, textsFault, limitFault, headerFault}
 use Rattle.header.proofs.Laws.Faults.{fault-texts, fault-limit}
 
@@ -58,7 +58,7 @@ unfolding limitFault
 fault-whole s h e =
     by-zero (textsFault s)
     (λ z.
-    by-test (leb (headerOf s .bodySize) limit)
+    by-test (leb (headerOf s .bodySize) bodyLimit)
     (λ t. let k = sym (fault-limit s h z ∙ ap (λ (b : Bool). cond b 0 3) t) ∙ e in omega (arith, k))
     (λ t. let k = sym (fault-limit s h z ∙ ap (λ (b : Bool). cond b 0 3) t) ∙ e in omega (arith, k)))
     (λ z. omega (arith, fault-texts s h z, e))

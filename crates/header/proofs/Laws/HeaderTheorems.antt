@@ -18,8 +18,8 @@ use Rattle.fields.proofs.Laws.Text.{text-ok}
 use Rattle.fields.proofs.Laws.Received.{rest-rest, field-parts, ok-is, zeros-to, zeros-from, zeroed-fills, zeroed-zeroed, fills-zeros}
 use Rattle.header.specs.declared.HeaderRead.{HeaderRead}
 use Rattle.header.specs.declared.HeaderFields.{HeaderFields}
-use Rattle.header.specs.Header.{Header, WellTexts, HeaderFits, WellHeader, encodeHeader, limit, cleanedHeader, CleanHeader}
-use Rattle.header.specs.HeaderReader.{headerOf, textsFault, headerFault, handed, refused, headerRead, typeIn, nameIn}
+use Rattle.header.specs.Header.{Header, WellTexts, HeaderFits, WellHeader, encodeHeader, bodyLimit, cleanedHeader, CleanHeader}
+use Rattle.header.specs.HeaderReader.{headerOf, textsFault, headerFault, handed, headerRead, typeIn, nameIn}
 use Rattle.header.specs.HeaderWriter.{namesFault, given, givenFault, headerWritten, headerOut}
 use Rattle.header.specs.HeaderTheorems.{BeginsWith, TextsHeld, givenBack, HeaderTheorems}
 use Rattle.header.proofs.Laws.Faults.{texts-pass, texts-passed, names-pass, names-broken, limit-pass, limit-refused, fault-short, fault-texts, fault-limit, header-read-passed, header-read-refused, refused-with}
@@ -61,7 +61,7 @@ held-texts s h = texts-pass s (passed (part 12 2 s) (h .0)) (passed (part 20 14 
     passed : (f : List ℕ) → (t : List ℕ) × (r : List ℕ) × Text t × Rest r × (t ++ r ≡ f) → textOk f ≡ true
     passed f k = ap textOk (sym (k .4)) ∙ ok-is (k .0) (k .1) (k .2) (k .3)
 
-above-limit : (s : List ℕ) → 58 ≤ length s → TextsHeld s → limit < beAt 8 42 s → headerFault s ≡ 3
+above-limit : (s : List ℕ) → 58 ≤ length s → TextsHeld s → bodyLimit < beAt 8 42 s → headerFault s ≡ 3
 unfolding headerOf
 above-limit s h t k = fault-limit s h (held-texts s t) ∙ limit-refused (beAt 8 42 s) k
 

@@ -6,7 +6,7 @@ use mathlib.Core.List.{List}
 use native.Mathlib.Omega.{arith}
 use lib.ListN.{length}
 use borrow.Author.Tests.{ne-eqb}
-use Rattle.header.specs.Header.{limit}
+use Rattle.header.specs.Header.{bodyLimit}
 use Rattle.header.specs.HeaderReader.{headerOf}
 use Rattle.metadata.specs.Metadata.{Metadata, WellMetadata, indexSize, encodeMetadata}
 use Rattle.metadata.proofs.Laws.MetadataTheorems.{metadata-theorems}
@@ -81,7 +81,7 @@ both-well l o m n w =
       sections = same-sections l o (m .version) k x (index-within (m .metadata) (w .metadata)) n (w .sections);
       content = w .content;
       metadata = w .metadata;
-      size-limit = subst (λ (j : ℕ). j ≤ limit) (same-size l o (m .version) k x (w .sections)) (w .size-limit);
+      size-limit = subst (λ (j : ℕ). j ≤ bodyLimit) (same-size l o (m .version) k x (w .sections)) (w .size-limit);
     }
 
 pub both-layouts : (l o : Layout) → BothLayouts l o

@@ -1,5 +1,5 @@
 -- The two layouts, case by case: the numbers of an extended header are read as what they were written from, and are written again as they were
--- read. All other laws of this crate take any layout, but for `same-numbers` and `both-fit` in Both.
+-- read. All other laws of this crate take any layout, but for `same-numbers` and `both-fit` in BothLayouts.
 use Prim.Native.Nat.{ℕ, _+_, _*_, _^_, _<_, _≤_}
 use mathlib.Core.Path.{_≡_, refl, sym, ap, _∙_, subst}
 use mathlib.Core.Bool.{Bool, true, cond}
@@ -13,7 +13,7 @@ use Rattle.fields.specs.Bytes.{Bytes}
 use Rattle.fields.specs.Numbers.{beVal, beAt}
 use Rattle.fields.proofs.Laws.Numbers.{beAt-lt}
 use Rattle.fields.proofs.Laws.Checks.{cond-pass, cond-refused}
-use Rattle.header.specs.Header.{limit}
+use Rattle.header.specs.Header.{bodyLimit}
 use Rattle.metadata.specs.MetadataCheck.{indexCount, indexSizeIn}
 use Rattle.message.specs.declared.Layout.{Layout}
 use Rattle.message.specs.declared.Layout.the-variants.{New, Old}
@@ -119,7 +119,7 @@ pub fits-well : (l : Layout) (k m : ℕ) → MetadataFits l k m → sizeFits l k
 fits-well New k m f = le-leb k 65535 (omega (arith, f .1))
 fits-well Old k m f = le-leb m 65535 (omega (arith, f))
 
-pub fit-metadata : (l : Layout) (v : ℕ) (s : List ℕ) → v ≡ 2 → sizeFits l (indexSizeIn s) (length s) ≡ true → HasIndex l v s → length s ≤ limit
+pub fit-metadata : (l : Layout) (v : ℕ) (s : List ℕ) → v ≡ 2 → sizeFits l (indexSizeIn s) (length s) ≡ true → HasIndex l v s → length s ≤ bodyLimit
     → MetadataFits l (indexSizeIn s) (length s)
 fit-metadata New v s e h i n = (i e, omega (arith, leb-true (indexSizeIn s) 65535 h), omega arith)
 fit-metadata Old v s e h i n = omega (arith, leb-true (length s) 65535 h)

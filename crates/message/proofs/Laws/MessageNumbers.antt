@@ -22,7 +22,7 @@ use Rattle.fields.proofs.Laws.Received.{zero-fills}
 use Rattle.crc64.specs.Crc.{crcOf}
 use Rattle.crc64.proofs.Laws.{crc-lt}
 use Rattle.header.specs.declared.HeaderRead.{HeaderRead}
-use Rattle.header.specs.Header.{Header, WellTexts, HeaderFits, limit}
+use Rattle.header.specs.Header.{Header, WellTexts, HeaderFits, bodyLimit}
 use Rattle.header.specs.HeaderReader.{headerOf, headerFault, headerRead, limitFault}
 use Rattle.header.specs.HeaderWriter.{namesFault}
 use Rattle.header.specs.HeaderReader as header
@@ -179,7 +179,7 @@ says-names : (l : Layout) (p : Parts) (room : ℕ) → (WellTexts (p .typeText) 
 says-names l p room h =
     checks-say l p room 1 (sym (write-names l p 2 (sym (names-broken (p .typeText) (p .deviceName) h)) (is-some 2 1 refl)))
 
-says-too-long : (l : Layout) (p : Parts) (room : ℕ) → WellTexts (p .typeText) (p .deviceName) → limit < length (bodyGiven l p)
+says-too-long : (l : Layout) (p : Parts) (room : ℕ) → WellTexts (p .typeText) (p .deviceName) → bodyLimit < length (bodyGiven l p)
     → writtenNumber (messageWritten l p room) ≡ 3
 says-too-long l p room t h = checks-say l p room 2 (sym (write-limit l p (names-pass (p .typeText) (p .deviceName) t) h))
 
@@ -195,7 +195,7 @@ unfit-refused l v x u =
     (λ e. let q = sizes-passed l v x (e .0) k in ⊎-elim (λ a. omega (arith, q .0)) (λ a. unfit-size l (x .metadata) a (q .1)) (e .1))
     u)
 
-says-unfit : (l : Layout) (p : Parts) (room : ℕ) → WellTexts (p .typeText) (p .deviceName) → length (bodyGiven l p) ≤ limit → Unfit l (p .version) (p .sections)
+says-unfit : (l : Layout) (p : Parts) (room : ℕ) → WellTexts (p .typeText) (p .deviceName) → length (bodyGiven l p) ≤ bodyLimit → Unfit l (p .version) (p .sections)
     → writtenNumber (messageWritten l p room) ≡ 6
 says-unfit l p room t n u =
     checks-say l p room 5
@@ -215,13 +215,13 @@ fit-ok l v x o h =
     o
 
 -- n: the body keeps the limit
-fit-sizes : (l : Layout) (p : Parts) → p .version ≡ 2 → length (bodyGiven l p) ≤ limit → (Unfit l (p .version) (p .sections) → ⊥)
+fit-sizes : (l : Layout) (p : Parts) → p .version ≡ 2 → length (bodyGiven l p) ≤ bodyLimit → (Unfit l (p .version) (p .sections) → ⊥)
     → HasIndex l (p .version) (p .sections .metadata) → MetadataFits l (indexOf p) (length (p .sections .metadata))
 fit-sizes l p e n h i =
     let x : Sections = p .sections in
     fit-metadata l (p .version) (x .metadata) e (fit-size l (x .metadata) (λ k. h (inr (e, inr k)))) i (omega (arith, length-2 l (p .version) (indexOf p) x e, n))
 
-fit-well : (l : Layout) (p : Parts) → Given l p → IsVersion (p .version) → length (bodyGiven l p) ≤ limit → (Unfit l (p .version) (p .sections) → ⊥)
+fit-well : (l : Layout) (p : Parts) → Given l p → IsVersion (p .version) → length (bodyGiven l p) ≤ bodyLimit → (Unfit l (p .version) (p .sections) → ⊥)
     → HasIndex l (p .version) (p .sections .metadata) → WellSections l (p .version) (indexOf p) (p .sections)
 fit-well l p g o n h i =
     ⊎-elim (λ e. inl (e, fit-plain l (p .version) (p .sections) e h))
@@ -239,7 +239,7 @@ fit-well l p g o n h i =
 
 -- of sections that fit, the writer's checks are the reader's
 same-checks : (l : Layout) (p : Parts) → Given l p → (Unfit l (p .version) (p .sections) → ⊥) → HasIndex l (p .version) (p .sections .metadata)
-    → length (bodyGiven l p) ≤ limit
+    → length (bodyGiven l p) ≤ bodyLimit
     → givenSectionsFault l (p .version) (p .typeText) (p .sections) ≡ bodyFault l (p .version) (crcOf (bodyGiven l p)) (p .typeText) (bodyGiven l p)
 same-checks l p g h i n =
     by-zero (versionFault (p .version))
@@ -271,7 +271,7 @@ checks-reader l p g t h i =
     ∙ ap (streamFault l) (append-nil (encodeParts l p))
     ∙ sym (read-number l (encodeParts l p))
 
-says-no-metadata : (l : Layout) (p : Parts) (room : ℕ) → WellTexts (p .typeText) (p .deviceName) → length (bodyGiven l p) ≤ limit → IsVersion (p .version)
+says-no-metadata : (l : Layout) (p : Parts) (room : ℕ) → WellTexts (p .typeText) (p .deviceName) → length (bodyGiven l p) ≤ bodyLimit → IsVersion (p .version)
     → (Unfit l (p .version) (p .sections) → ⊥) → Bytes (p .sections .metadata) → (IsMetadata (p .sections .metadata) → ⊥)
     → writtenNumber (messageWritten l p room) ≡ 7
 unfolding sectionsFault

@@ -18,7 +18,7 @@ use Rattle.fields.proofs.Laws.Received.{zeros-to, zeros-from, zeroed-fills, zer
 use Rattle.fields.proofs.Laws.Writers.{writer-theorems}
 use Rattle.crc64.specs.Crc.{crcOf}
 use Rattle.crc64.proofs.Laws.{crc-lt}
-use Rattle.header.specs.Header.{Header, WellTexts, HeaderFits, WellHeader, limit}
+use Rattle.header.specs.Header.{Header, WellTexts, HeaderFits, WellHeader, bodyLimit}
 use Rattle.header.specs.HeaderReader.{headerOf, limitFault}
 use Rattle.header.specs.HeaderWriter.{namesFault}
 use Rattle.metadata.specs.Metadata.{encodeMetadata, indexSize}
@@ -180,7 +180,7 @@ accepted-message l s b a =
               sections = subst (λ (i : ℕ). WellSections l v i (partsOf m .sections)) (sym k) (subst (WellSections l v (indexSizeIn (x .metadata))) (sym y) g);
               content = c .1 .0;
               metadata = d .1;
-              size-limit = subst (λ (k : ℕ). k ≤ limit) (sym n) (w .size-limit);
+              size-limit = subst (λ (k : ℕ). k ≤ bodyLimit) (sym n) (w .size-limit);
             };
         rest = drop (58 + h .bodySize) s;
         bytes =
@@ -261,7 +261,7 @@ cleaned-well l m w =
       sections = other-content l (m .version) (indexSize (m .metadata)) (partsOf m .sections) (partsOf (cleaned m) .sections .content) (w .sections);
       content = content-theorems .cleaned-well deepest (m .content) (w .content);
       metadata = w .metadata;
-      size-limit = subst (λ (n : ℕ). n ≤ limit) (sym (cleaned-length l m)) (w .size-limit);
+      size-limit = subst (λ (n : ℕ). n ≤ bodyLimit) (sym (cleaned-length l m)) (w .size-limit);
     }
 
 any-rests : (l : Layout) (m : Message) → RestsFill m → WellFormed l (cleaned m) → WellFormed l m
@@ -273,7 +273,7 @@ any-rests l m f w =
       sections = other-content l (m .version) (indexSize (m .metadata)) (partsOf (cleaned m) .sections) (partsOf m .sections .content) (w .sections);
       content = content-theorems .any-rests deepest (m .content) (f .content-fills) (w .content);
       metadata = w .metadata;
-      size-limit = subst (λ (n : ℕ). n ≤ limit) (cleaned-length l m) (w .size-limit);
+      size-limit = subst (λ (n : ℕ). n ≤ bodyLimit) (cleaned-length l m) (w .size-limit);
     }
 
 cleaned-clean : (m : Message) → Clean (cleaned m)
@@ -314,7 +314,7 @@ pub well-written : (l : Layout) (m : Message) → WellFormed l m → givenFault 
 unfolding givenFault givenSectionsFault
 well-written l m w =
     let p : Parts = handedOut m in
-    let n : length (bodyGiven l p) ≤ limit = subst (λ (k : ℕ). length (bodyOf l k p) ≤ limit) (sym (index-of l m w)) (w .size-limit) in
+    let n : length (bodyGiven l p) ≤ bodyLimit = subst (λ (k : ℕ). length (bodyOf l k p) ≤ bodyLimit) (sym (index-of l m w)) (w .size-limit) in
     let g : WellSections l (m .version) (indexOf p) (p .sections) =
     subst (λ (k : ℕ). WellSections l (m .version) k (p .sections)) (sym (index-of l m w)) (w .sections) in
     else-zero (namesFault (typeText (m .content)) (m .deviceName)) _ (names-pass (typeText (m .content)) (m .deviceName) (well-texts l m w))

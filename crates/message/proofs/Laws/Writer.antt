@@ -22,7 +22,7 @@ use Rattle.fields.specs.Writers.{writerFault, WriterPromise}
 use Rattle.fields.specs.declared.Written.{Written}
 use Rattle.fields.specs.declared.Written.the-variants.{Wrote, Refused}
 use Rattle.crc64.specs.Crc.{crcOf}
-use Rattle.header.specs.Header.{Header, HeaderFits, encodeHeader, limit}
+use Rattle.header.specs.Header.{Header, HeaderFits, encodeHeader, bodyLimit}
 use Rattle.header.specs.HeaderReader.{headerOf, limitFault}
 use Rattle.header.specs.HeaderWriter.{namesFault, headerOut}
 use Rattle.metadata.specs.MetadataCheck.{indexSizeIn, metadataFault}
@@ -197,26 +197,26 @@ module _ (l : Layout) (p : Parts) where
   unfolding givenFault
   write-texts e = else-second (namesFault (p .typeText) (p .deviceName)) _ e
 
-  pub write-limit : namesFault (p .typeText) (p .deviceName) ≡ 0 → limit < length (bodyGiven l p) → 3 ≡ givenFault l p
+  pub write-limit : namesFault (p .typeText) (p .deviceName) ≡ 0 → bodyLimit < length (bodyGiven l p) → 3 ≡ givenFault l p
   write-limit e h =
       let k : limitFault (length (bodyGiven l p)) ≡ 3 = limit-refused (length (bodyGiven l p)) h in
       sym (write-texts e ∙ else-fault (limitFault (length (bodyGiven l p))) _ 2 k)
 
-  pub write-rest : namesFault (p .typeText) (p .deviceName) ≡ 0 → length (bodyGiven l p) ≤ limit
+  pub write-rest : namesFault (p .typeText) (p .deviceName) ≡ 0 → length (bodyGiven l p) ≤ bodyLimit
       → givenSectionsFault l (p .version) (p .typeText) (p .sections) ≡ givenFault l p
   write-rest e h = sym (write-texts e ∙ else-second (limitFault (length (bodyGiven l p))) _ (limit-pass (length (bodyGiven l p)) h))
 
   -- the limit as the code tests it
-  pub long-body : leb (longOf p) limit ≡ false → limit < length (bodyGiven l p)
-  long-body h = omega (arith, length-given l p, leb-false (longOf p) limit h)
+  pub long-body : leb (longOf p) bodyLimit ≡ false → bodyLimit < length (bodyGiven l p)
+  long-body h = omega (arith, length-given l p, leb-false (longOf p) bodyLimit h)
 
-  pub short-body : leb (longOf p) limit ≡ true → length (bodyGiven l p) ≤ limit
-  short-body h = omega (arith, length-given l p, leb-true (longOf p) limit h)
+  pub short-body : leb (longOf p) bodyLimit ≡ true → length (bodyGiven l p) ≤ bodyLimit
+  short-body h = omega (arith, length-given l p, leb-true (longOf p) bodyLimit h)
 
 -- what passes them
 pub record Writable (l : Layout) (p : Parts) : Type 0 where
   pub names : namesFault (p .typeText) (p .deviceName) ≡ 0
-  pub short : length (bodyGiven l p) ≤ limit
+  pub short : length (bodyGiven l p) ≤ bodyLimit
   pub version : IsVersion (p .version)
   pub fit : fitOk l (p .version) (p .sections) ≡ true
   pub metadata : metadataFault (p .sections .metadata) ≡ 0
@@ -246,7 +246,7 @@ pub written-sizes : (l : Layout) (p : Parts) → Writable l p → p .version ≡
 written-sizes l p w e =
     let x : Sections = p .sections in
     let q = sizes-passed l (p .version) x e (w .fit) in
-    let n : length (x .metadata) ≤ limit = omega (arith, length-2 l (p .version) (indexOf p) x e, w .short) in
+    let n : length (x .metadata) ≤ bodyLimit = omega (arith, length-2 l (p .version) (indexOf p) x e, w .short) in
     (q .0, fit-metadata l (p .version) (x .metadata) e (q .1) (written-index l p w) n)
 
 -- ---- the bytes of a message, k being the size of the metadata's index
@@ -315,7 +315,7 @@ pub writable-cleaned : (l : Layout) (p : Parts) → Writable l p → Writable l 
 writable-cleaned l p w =
     record {
       names = w .names;
-      short = subst (λ (n : ℕ). n ≤ limit) (sym (length-cleaned-body l p)) (w .short);
+      short = subst (λ (n : ℕ). n ≤ bodyLimit) (sym (length-cleaned-body l p)) (w .short);
       version = w .version;
       fit = w .fit;
       metadata = w .metadata;

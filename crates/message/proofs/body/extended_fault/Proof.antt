@@ -1,7 +1,6 @@
 -- `message::body::extended_fault` meets its contract: the fault of each version.
 use mathlib.Core.Path.{ap, sym, _∙_}
 use mathlib.Core.Bool.{Bool, cond}
-use borrow.Author.Needs.{needs}
 use Rattle.message.specs.declared.body.Places.{Places}
 use Rattle.message.proofs.Laws.Body.{places-2, fault-1, fault-2}
 use Rattle.message.proofs.body.extended_fault.Statement.{statement}

@@ -1,7 +1,7 @@
 //! A walk through the children of a BIND by a cursor.
 
 use super::bind_layout::{after_block, after_headers, count, data_of, headers, size_of, type_of};
-use super::content::check_content;
+use super::content::content_check;
 use super::fields::{rest, text_len};
 
 #[derive(Clone, Copy, Default)]
@@ -46,7 +46,7 @@ fn child_at(
 }
 
 pub fn first_child(content: &[u8]) -> Cursor {
-    let answer = check_content(b"BIND", content);
+    let answer = content_check(b"BIND", content);
     if answer.number != 0 {
         return Cursor {
             number: answer.number,

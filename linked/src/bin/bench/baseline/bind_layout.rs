@@ -2,7 +2,7 @@
 
 use super::fields::{
     accepted, all_zero, be16, be64, first, is_text, part, past_text, read_field, refusal, rest,
-    text_len, text_of, Checked, TextField,
+    text_len, text_of, Checked,
 };
 
 // ---- parts
@@ -43,17 +43,17 @@ pub fn after_block(blocks: &[u8], n: usize) -> &[u8] {
 
 // ---- layout
 
-fn read_types(mut headers: &[u8], n: usize) -> TextField {
+fn types_check(mut headers: &[u8], n: usize) -> Checked {
     let mut clean = true;
     for _ in 0..n {
         let field = read_field(first(headers, 12));
         if !field.ok {
-            return field;
+            return refusal(10);
         }
         clean &= field.clean;
         headers = rest(headers, 20);
     }
-    TextField { ok: true, clean }
+    accepted(clean)
 }
 
 fn name_ok(table: &[u8]) -> bool {
@@ -94,17 +94,17 @@ fn data_ok(mut headers: &[u8], mut blocks: &[u8], n: usize) -> bool {
     blocks.is_empty()
 }
 
-pub fn check_layout(content: &[u8]) -> Checked {
+pub fn layout_check(content: &[u8]) -> Checked {
     let n = count(content);
     let table_size = usize::from(be16(after_headers(content), 0));
     if content.len() < 4 + 20 * n + table_size {
         return refusal(10);
     }
-    let types = read_types(headers(content), n);
-    let ok = types.ok
-        && table_ok(table_of(content), n)
-        && data_ok(headers(content), data_of(content), n);
-    if ok {
+    let types = types_check(headers(content), n);
+    if types.number != 0 {
+        return types;
+    }
+    if table_ok(table_of(content), n) && data_ok(headers(content), data_of(content), n) {
         accepted(types.clean)
     } else {
         refusal(10)

@@ -25,7 +25,7 @@ fn put_front(content: &[u8], at: usize, out: &mut [u8]) {
 }
 
 fn put_bind(content: &[u8], levels: u32, at: usize, out: &mut [u8]) {
-    if levels == 0 || bind_layout::check_layout(content).number != 0 {
+    if levels == 0 || bind_layout::layout_check(content).number != 0 {
         return put(content, at, out);
     }
     put_front(content, at, out);

@@ -34,21 +34,21 @@ fn without_text(number: u8) -> Checked {
     }
 }
 
-fn check_at(text: &[u8], content: &[u8], levels: u32) -> Checked {
+fn nested_check(text: &[u8], content: &[u8], levels: u32) -> Checked {
     match kind_of(text) {
         Kind::Transform => without_text(pose::transform_fault(content)),
         Kind::Position => without_text(pose::position_fault(content)),
         Kind::Image => without_text(image::image_fault(content)),
-        Kind::Bind => check_bind(content, levels),
+        Kind::Bind => nested_bind_check(content, levels),
         Kind::Other => accepted(true),
     }
 }
 
-fn check_bind(content: &[u8], levels: u32) -> Checked {
+fn nested_bind_check(content: &[u8], levels: u32) -> Checked {
     if levels == 0 {
         return refusal(11);
     }
-    let layout = bind_layout::check_layout(content);
+    let layout = bind_layout::layout_check(content);
     if layout.number != 0 {
         return layout;
     }
@@ -57,7 +57,7 @@ fn check_bind(content: &[u8], levels: u32) -> Checked {
     let mut data = bind_layout::data_of(content);
     for _ in 0..bind_layout::count(content) {
         let size = bind_layout::size_of(headers);
-        let child = check_at(bind_layout::type_of(headers), first(data, size), levels - 1);
+        let child = nested_check(bind_layout::type_of(headers), first(data, size), levels - 1);
         if child.number != 0 {
             return child;
         }
@@ -68,12 +68,12 @@ fn check_bind(content: &[u8], levels: u32) -> Checked {
     accepted(clean)
 }
 
-pub fn check_content(text: &[u8], content: &[u8]) -> Checked {
-    check_at(text, content, 4)
+pub fn content_check(text: &[u8], content: &[u8]) -> Checked {
+    nested_check(text, content, 4)
 }
 
 pub fn content_fault(text: &[u8], content: &[u8]) -> u8 {
-    check_content(text, content).number
+    content_check(text, content).number
 }
 
 #[cfg(test)]

@@ -67,8 +67,11 @@ pub fn sized<const N: usize>(s: &[u8]) -> [u8; N] {
 
 // ---- texts
 
+/// The bytes of a text are below this, and none is 0.
+const TEXT_LIMIT: u8 = 128;
+
 pub fn is_text(t: &[u8]) -> bool {
-    t.iter().all(|&b| b != 0 && b < 128)
+    t.iter().all(|&b| b != 0 && b < TEXT_LIMIT)
 }
 
 pub fn text_len(s: &[u8]) -> usize {
@@ -89,14 +92,31 @@ pub fn all_zero(s: &[u8]) -> bool {
 
 pub struct TextField {
     pub ok: bool,
+    pub len: usize,
     pub clean: bool,
 }
 
 pub fn read_field(f: &[u8]) -> TextField {
-    let text = text_of(f);
+    for (i, &b) in f.iter().enumerate() {
+        if b == 0 {
+            return TextField {
+                ok: true,
+                len: i,
+                clean: all_zero(rest(f, i + 1)),
+            };
+        }
+        if TEXT_LIMIT <= b {
+            return TextField {
+                ok: false,
+                len: 0,
+                clean: false,
+            };
+        }
+    }
     TextField {
-        ok: is_text(text),
-        clean: all_zero(rest(f, text.len())),
+        ok: true,
+        len: f.len(),
+        clean: true,
     }
 }
 
@@ -142,15 +162,18 @@ mod tests {
     #[test]
     fn text_fields() {
         let read = |f: &[u8]| {
-            let TextField { ok, clean } = read_field(f);
-            (ok, clean)
+            let TextField { ok, len, clean } = read_field(f);
+            (ok, len, clean)
         };
-        assert_eq!(read(b"Arm\0\0"), (true, true));
-        assert_eq!(read(b"\0\0"), (true, true));
-        assert_eq!(read(b"full"), (true, true));
-        assert_eq!(read(b"Arm\0a"), (true, false));
-        assert_eq!(read(b"\0\x80"), (true, false));
-        assert!(!read(b"\x80\0").0);
+        assert_eq!(read(b"Arm\0\0"), (true, 3, true));
+        assert_eq!(read(b"\0\0"), (true, 0, true));
+        assert_eq!(read(b"full"), (true, 4, true));
+        assert_eq!(read(b""), (true, 0, true));
+        assert_eq!(read(b"Arm\0a"), (true, 3, false));
+        assert_eq!(read(b"\0\x80"), (true, 0, false));
+        assert_eq!(read(b"\x7F\0"), (true, 1, true));
+        assert_eq!(read(b"\x80\0"), (false, 0, false));
+        assert_eq!(read(b"Arm\x80"), (false, 0, false));
     }
 
     #[test]

@@ -1,9 +1,6 @@
 //! The header of a message: 58 bytes.
 
-use super::fields::{
-    accepted, be16, be64, is_text, part, put16, put64, put_text12, put_text20, read_field, refusal,
-    text_len, Checked,
-};
+use super::fields::{be16, be64, is_text, part, put16, put64, put_text12, put_text20, read_field};
 
 pub struct HeaderRead {
     pub number: u8,
@@ -27,16 +24,6 @@ fn size_at(stream: &[u8]) -> usize {
     be64(stream, 42) as usize
 }
 
-fn check_texts(stream: &[u8]) -> Checked {
-    let type_field = read_field(part(stream, 2, 12));
-    let name_field = read_field(part(stream, 14, 20));
-    if type_field.ok && name_field.ok {
-        accepted(type_field.clean && name_field.clean)
-    } else {
-        refusal(2)
-    }
-}
-
 fn limit_fault(size: usize) -> u8 {
     if size <= 16_777_216 {
         0
@@ -45,19 +32,11 @@ fn limit_fault(size: usize) -> u8 {
     }
 }
 
-fn check_header(stream: &[u8]) -> Checked {
-    if stream.len() < 58 {
-        return refusal(1);
+fn fields_fault(texts_ok: bool, body_size: usize) -> u8 {
+    if !texts_ok {
+        return 2;
     }
-    let texts = check_texts(stream);
-    if texts.number != 0 {
-        return texts;
-    }
-    let fault = limit_fault(size_at(stream));
-    if fault != 0 {
-        return refusal(fault);
-    }
-    texts
+    limit_fault(body_size)
 }
 
 fn refused(number: u8) -> HeaderRead {
@@ -73,12 +52,12 @@ fn refused(number: u8) -> HeaderRead {
     }
 }
 
-fn handed(stream: &[u8], clean: bool) -> HeaderRead {
+fn handed(stream: &[u8], type_len: usize, name_len: usize, clean: bool) -> HeaderRead {
     HeaderRead {
         number: 0,
         version: be16(stream, 0),
-        type_len: text_len(part(stream, 2, 12)),
-        name_len: text_len(part(stream, 14, 20)),
+        type_len,
+        name_len,
         time_stamp: be64(stream, 34),
         body_size: size_at(stream),
         crc: be64(stream, 50),
@@ -87,11 +66,17 @@ fn handed(stream: &[u8], clean: bool) -> HeaderRead {
 }
 
 pub fn read_header(stream: &[u8]) -> HeaderRead {
-    let checked = check_header(stream);
-    if checked.number != 0 {
-        return refused(checked.number);
+    if stream.len() < 58 {
+        return refused(1);
     }
-    handed(stream, checked.clean)
+    let type_field = read_field(part(stream, 2, 12));
+    let name_field = read_field(part(stream, 14, 20));
+    let fault = fields_fault(type_field.ok && name_field.ok, size_at(stream));
+    if fault != 0 {
+        return refused(fault);
+    }
+    let clean = type_field.clean && name_field.clean;
+    handed(stream, type_field.len, name_field.len, clean)
 }
 
 pub fn names_fault(type_text: &[u8], device_name: &[u8]) -> u8 {

@@ -1,7 +1,7 @@
 //! Whole messages: the reader of the front of a byte stream, and the writer.
 
 use super::cleaning::put_clean;
-use super::content::check_content;
+use super::content::content_check;
 use super::crc64::crc64;
 use super::fields::{self, be16, be32, part, put, put16, put32, Checked};
 use super::header::{self, HeaderFields, HeaderRead};
@@ -130,15 +130,15 @@ fn version_fault(version: u16) -> u8 {
     }
 }
 
-fn check_contents(type_text: &[u8], content: &[u8], metadata: &[u8]) -> Checked {
+fn contents_check(type_text: &[u8], content: &[u8], metadata: &[u8]) -> Checked {
     let fault = metadata_fault(metadata);
     if fault != 0 {
         return fields::refusal(fault);
     }
-    check_content(type_text, content)
+    content_check(type_text, content)
 }
 
-fn check_body(
+fn body_check(
     layout: Layout,
     version: u16,
     crc: u64,
@@ -163,7 +163,7 @@ fn check_body(
         return fields::refusal(fault);
     }
     let content = part(body, places.content_at, places.content_len);
-    check_contents(type_text, content, metadata)
+    contents_check(type_text, content, metadata)
 }
 
 fn accept(header: HeaderRead, places: Places, clean: bool) -> Answer {
@@ -197,7 +197,7 @@ pub fn read(layout: Layout, stream: &[u8]) -> Answer {
     let body = part(stream, 58, size);
     let places = sections(layout, header.version, body);
     let type_text = part(stream, 2, header.type_len);
-    let checked = check_body(layout, header.version, header.crc, type_text, body, places);
+    let checked = body_check(layout, header.version, header.crc, type_text, body, places);
     if checked.number != 0 {
         return refusal(checked.number, 58 + size);
     }
@@ -261,7 +261,7 @@ fn sections_checks(layout: Layout, version: u16, type_text: &[u8], body: &Body) 
     if !is_fit(layout, version, body) {
         return 6;
     }
-    check_contents(type_text, body.content, body.metadata).number
+    contents_check(type_text, body.content, body.metadata).number
 }
 
 fn write_checks(layout: Layout, message: &Message) -> u8 {
