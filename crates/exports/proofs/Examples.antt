@@ -32,6 +32,7 @@ examples =
       carried = refl;
       answered-bytes = refl;
       message-given = refl;
+      promised = λ l p out left r n w. (w .count, w .number, w .bytes);
       cursor-bytes = refl;
       cursor-at-wide = refl;
       cursor-bytes-wide = refl;

@@ -3,18 +3,21 @@ use Prim.Native.Nat.{ℕ}
 use mathlib.Core.Path.{_≡_}
 use mathlib.Core.Bool.{true, false}
 use mathlib.Core.List.{List, [], _∷_, _++_, map}
-use lib.ListN.{replicate}
+use lib.ListN.{length, replicate}
+use Rattle.fields.specs.Answer.{writtenNumber, writtenCount}
 use Rattle.fields.specs.Layout.{join}
 use Rattle.bind_cursor.specs.declared.Cursor.{Cursor}
 use Rattle.message.specs.declared.Layout.{Layout}
 use Rattle.message.specs.declared.Answer.{Answer}
+use Rattle.message.specs.Message.{Parts}
 use Rattle.message.specs.MessageReader.{refused}
+use Rattle.message.specs.MessageWriter.{messageWritten, messageOut}
 use Rattle.feed.specs.declared.PushAnswer.the-variants.{Nothing, Read}
 use Rattle.feed.specs.declared.PushAnswer.the-variants as pushing
 use Rattle.feed.specs.Push.{openOf}
 use Rattle.replay.specs.declared.CallAnswer.{CallAnswer}
 use Rattle.replay.specs.declared.CallAnswer.the-variants.{Accepted, Added, Empty, Green, Grey, Refused, NoCall}
-use Rattle.exports.specs.Exports.{markNumber, answerBytes, messageGiven, pushCode, pushRead, pushedBytes, fedTotal, fedBuffer, fedBytes, answerCode, carriedNumber, answeredBytes, cursorBytes, cursorAt}
+use Rattle.exports.specs.Exports.{markNumber, answerBytes, messageGiven, WrittenAs, pushCode, pushRead, pushedBytes, fedTotal, fedBuffer, fedBytes, answerCode, carriedNumber, answeredBytes, cursorBytes, cursorAt}
 
 -- eight bytes, of which the last is this
 abbrev pub byte : ℕ → List ℕ
@@ -130,6 +133,9 @@ pub record Examples : Type 0 where
         timeStamp = 2;
         sections = record { id = 3; further = 6 ∷ []; content = 7 ∷ []; metadata = 8 ∷ [] };
       }
+  -- what is promised of the writer is its count, its number and its buffer
+  pub promised : (l : Layout) (p : Parts) (out left : List ℕ) (r n : ℕ) → WrittenAs l p out r n left
+      → (r ≡ writtenCount (messageWritten l p (length out))) × (n ≡ writtenNumber (messageWritten l p (length out))) × (left ≡ messageOut l p out)
   -- number, how many children are left, place and length of the type, of the name, of the data; the mark
   pub cursor-bytes : cursorBytes nine
       ≡ join

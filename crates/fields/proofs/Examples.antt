@@ -24,6 +24,7 @@ examples =
       no-byte = λ b. absurd (let z : 256 < 256 = b 0 in omega arith);
       number-read = refl;
       number-written = refl;
+      largest-size = refl;
       numbers-read = refl;
       written-1 = refl;
       written-2 = refl;

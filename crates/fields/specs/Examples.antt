@@ -8,7 +8,7 @@ use lib.ListN.{length, drop, replicate}
 use lib.Seq.{sets}
 use Rattle.fields.specs.declared.Written.the-variants.{Wrote, Refused}
 use Rattle.fields.specs.Bytes.{Bytes, part, same}
-use Rattle.fields.specs.Numbers.{beVal, beBytes, beAt}
+use Rattle.fields.specs.Numbers.{beVal, beBytes, beAt, sizeLimit}
 use Rattle.fields.specs.Text.{isText, textOf, pastText, fieldOk, textBytes}
 use Rattle.fields.specs.Received.{restOf, fieldBytes, fieldRead}
 use Rattle.fields.specs.Tables.{counted, itemsOk}
@@ -28,6 +28,8 @@ pub record Examples : Type 0 where
   -- the most significant byte comes first
   pub number-read : beVal (0x01 ∷ 0x02 ∷ 0x03 ∷ 0x04 ∷ []) ≡ 0x01020304
   pub number-written : beBytes 4 0x01020304 ≡ 0x01 ∷ 0x02 ∷ 0x03 ∷ 0x04 ∷ []
+  -- the largest number of two bytes
+  pub largest-size : beVal (0xFF ∷ 0xFF ∷ []) ≡ sizeLimit
   -- of 1, 2, 4 and 8 bytes, at place 1
   pub numbers-read : map (λ w. beAt w 1 ten) (1 ∷ 2 ∷ 4 ∷ 8 ∷ []) ≡ 0x11 ∷ 0x1112 ∷ 0x11121314 ∷ 0x1112131415161718 ∷ []
   pub written-1 : sets (replicate {A = ℕ} 10 0) 1 (beBytes 1 0x11) ≡ 0 ∷ 0x11 ∷ replicate 8 0

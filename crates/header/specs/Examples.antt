@@ -169,6 +169,9 @@ pub record Examples : Type 0 where
   pub write-two : headerWritten (headerWith (full 13) [] 16777217) 57 ≡ Refused 2
   pub write-three : headerWritten (headerWith (full 12) [] 16777217) 57 ≡ Refused 3
   pub no-room : headerWritten (headerWith (full 12) [] 16777216) 57 ≡ Refused 20
+  -- a refusal leaves the buffer as it was: 2 and 3 with room, and 20
+  pub untouched : map (λ h. headerOut h (replicate 60 5)) (headerWith (full 13) [] 0 ∷ headerWith (full 12) [] 16777217 ∷ []) ≡ replicate 2 (replicate 60 5)
+  pub untouched-short : headerOut (headerWith (full 12) [] 0) (replicate 57 5) ≡ replicate 57 5
   -- seven seconds and a half
   pub seconds : secondsOf (7 * 2 ^ 32 + 2 ^ 31) ≡ 7
   pub half : nanosecondsOf (7 * 2 ^ 32 + 2 ^ 31) ≡ 500000000
