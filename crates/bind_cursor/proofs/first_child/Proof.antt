@@ -12,30 +12,12 @@ use Rattle.bind_cursor.proofs.first_child.Tie as tie
 bind-check-requires : tie.Need-bind-check-requires
 bind-check-requires c κs = search needs
 
-no-child-requires : tie.Need-no-child-requires
-no-child-requires c κs = search needs
-
 returns : tie.Need-returns
 unfolding firstOf
 returns c =
     let s = c .before .before .before .before .before .args .content .now in
     let e = ap (λ (x : Checked). x .number) (c .before .before .before .bind-check .ensures) ∙ bind-fault deepest s in
     simp (ne-eqb _ 0 (λ z. c .before .if1 .taken (e ∙ z))) cc
-
-headers-requires : tie.Need-headers-requires
-headers-requires c κs = search needs
-
-names-of-requires : tie.Need-names-of-requires
-names-of-requires c κs = search needs
-
-data-of-requires : tie.Need-data-of-requires
-data-of-requires c κs = search needs
-
-child-count-requires : tie.Need-child-count-requires
-child-count-requires c κs = search needs
-
-child-at-requires : tie.Need-child-at-requires
-child-at-requires c κs = search needs
 
 returns-2 : tie.Need-returns-2
 unfolding firstOf
@@ -50,11 +32,11 @@ first-child-spec =
     tie.close
     (tie.spec
     bind-check-requires
-    no-child-requires
+    (λ c κs. search needs)
     returns
-    headers-requires
-    names-of-requires
-    data-of-requires
-    child-count-requires
-    child-at-requires
+    (λ c κs. search needs)
+    (λ c κs. search needs)
+    (λ c κs. search needs)
+    (λ c κs. search needs)
+    (λ c κs. search needs)
     returns-2)

@@ -17,32 +17,8 @@ returns-2 : tie.Need-returns-2
 unfolding nextOf
 returns-2 c = sym (simp (eq-eqb _ 0 (c .before .before .if1 .left), eq-eqb _ 0 (c .if2 .taken)))
 
-rest-requires : tie.Need-rest-requires
-rest-requires c κs = search needs
-
-rest-requires-2 : tie.Need-rest-requires-2
-rest-requires-2 c κs = search needs
-
-rest-requires-3 : tie.Need-rest-requires-3
-rest-requires-3 c κs = search needs
-
-rest-requires-4 : tie.Need-rest-requires-4
-rest-requires-4 c κs = search needs
-
-rest-requires-5 : tie.Need-rest-requires-5
-rest-requires-5 c κs = search needs
-
-rest-requires-6 : tie.Need-rest-requires-6
-rest-requires-6 c κs = search needs
-
 after-block-requires : tie.Need-after-block-requires
 after-block-requires c κs = search needs
-
-sub-child-at : tie.Need-sub-child-at
-sub-child-at c = search needs
-
-child-at-requires : tie.Need-child-at-requires
-child-at-requires c κs = search needs
 
 returns-3 : tie.Need-returns-3
 unfolding nextOf
@@ -65,13 +41,13 @@ next-child-spec =
     (tie.spec
     returns
     returns-2
-    rest-requires
-    rest-requires-2
-    rest-requires-3
-    rest-requires-4
-    rest-requires-5
-    rest-requires-6
+    (λ c κs. search needs)
+    (λ c κs. search needs)
+    (λ c κs. search needs)
+    (λ c κs. search needs)
+    (λ c κs. search needs)
+    (λ c κs. search needs)
     after-block-requires
-    sub-child-at
-    child-at-requires
+    (λ c. search needs)
+    (λ c κs. search needs)
     returns-3)

@@ -7,26 +7,14 @@ use borrow.Author.Needs.{needs}
 use Rattle.bind_lookup.proofs.place_in.Statement.{statement}
 use Rattle.bind_lookup.proofs.place_in.Tie as tie
 
-index-fault-requires : tie.Need-index-fault-requires
-index-fault-requires c κs = search needs
-
 returns : tie.Need-returns
 unfolding placed
 returns c =
     let e = c .before .index-fault .ensures in
     simp (ne-eqb _ 0 (λ z. c .if1 .taken (e ∙ z))) cc
 
-data-from-requires : tie.Need-data-from-requires
-data-from-requires c κs = search needs
-
 sub-t10 : tie.Need-sub-t10
 sub-t10 c = left-inside (c .before .before .before .before .args .content .now) _ (c .data-from .ensures)
-
-headers-from-requires : tie.Need-headers-from-requires
-headers-from-requires c κs = search needs
-
-size-of-requires : tie.Need-size-of-requires
-size-of-requires c κs = search needs
 
 returns-2 : tie.Need-returns-2
 unfolding placed
@@ -38,10 +26,10 @@ pub place-in-spec : {M : Type 1} → statement M
 place-in-spec =
     tie.close
     (tie.spec
-    index-fault-requires
+    (λ c κs. search needs)
     returns
-    data-from-requires
+    (λ c κs. search needs)
     sub-t10
-    headers-from-requires
-    size-of-requires
+    (λ c κs. search needs)
+    (λ c κs. search needs)
     returns-2)

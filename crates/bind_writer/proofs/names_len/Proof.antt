@@ -23,33 +23,12 @@ abbrev μ-loop : tie.MeasureT-loop
 loop-holds : tie.Need-loop-holds Inv-loop μ-loop
 loop-holds c = let e = ap length (flat-none ended (map now (c .args .names .now))) in (omega arith, omega arith, omega arith)
 
-mul-name : tie.Need-mul-name Inv-loop μ-loop
-mul-name c = search needs
-
-shared-slice-copy-out-name : tie.Need-shared-slice-copy-out-name Inv-loop μ-loop
-shared-slice-copy-out-name c = search needs
-
-sub-if1 : tie.Need-sub-if1 Inv-loop μ-loop
-sub-if1 c = search needs
-
 returns : tie.Need-returns Inv-loop μ-loop
 returns c =
     let l = c .before .before .before .loop in
     let ps = c .before .before .before .before .args .names .now in
     let m = length-slices-le ended ps (l .i) (omega arith) in
     omega (arith, length-ended (now (getD ps (l .i) none)))
-
-add-sum : tie.Need-add-sum Inv-loop μ-loop
-add-sum c = search needs
-
-add-sum-2 : tie.Need-add-sum-2 Inv-loop μ-loop
-add-sum-2 c = search needs
-
-add-i : tie.Need-add-i Inv-loop μ-loop
-add-i c = search needs
-
-loop-less : tie.Need-loop-less Inv-loop μ-loop
-loop-less c = search needs
 
 loop-again : tie.Need-loop-again Inv-loop μ-loop
 loop-again c =
@@ -72,13 +51,13 @@ names-len-spec =
     Inv-loop
     μ-loop
     loop-holds
-    mul-name
-    shared-slice-copy-out-name
-    sub-if1
+    (λ c. search needs)
+    (λ c. search needs)
+    (λ c. search needs)
     returns
-    add-sum
-    add-sum-2
-    add-i
-    loop-less
+    (λ c. search needs)
+    (λ c. search needs)
+    (λ c. search needs)
+    (λ c. search needs)
     loop-again
     returns-2)

@@ -21,21 +21,6 @@ use Rattle.bind_writer.proofs.Laws.Encoding.{length-front, length-clean
 use Rattle.bind_writer.proofs.space_fault.Statement.{statement}
 use Rattle.bind_writer.proofs.space_fault.Tie as tie
 
-names-len-requires : tie.Need-names-len-requires
-names-len-requires c κs = search needs
-
-mul-front : tie.Need-mul-front
-mul-front c = search needs
-
-add-front : tie.Need-add-front
-add-front c = search needs
-
-add-front-2 : tie.Need-add-front-2
-add-front-2 c = search needs
-
-add-front-3 : tie.Need-add-front-3
-add-front-3 c = search needs
-
 -- the length that the room is compared with, by the names' length n
 encoded : (ts ns ds : List (List ℕ)) {n : ℕ} → listsOk ts ns ds ≡ true → n ≡ min (length (flat ended ns)) 65536
     → length (bindBytes ts ns ds) ≡ 4 + 20 * length ts + n + n % 2 + length (flat padded ds)
@@ -52,23 +37,11 @@ split long front behind room r e h m =
     (λ t. let k = leb-true behind (room - front) t in room-enough r (room - front) (omega (arith, k)) ∙ sym (room-enough long room (omega (arith, k))))
     (λ t. let k = leb-false behind (room - front) t in room-short r (room - front) (omega (arith, k)) ∙ sym (room-short long room (omega (arith, k))))
 
-room-fault-requires : tie.Need-room-fault-requires
-room-fault-requires c κs = search needs
-
 returns : tie.Need-returns
 returns c =
     let a = c .before .before .before .args in
     let e = encoded (map now (a .types .now)) _ (map now (a .contents .now)) (c .before .before .before .pre) (c .before .before .names-len .ensures) in
     c .room-fault .ensures ∙ room-short _ _ (omega arith) ∙ sym (room-short _ _ (omega (arith, e, length-map (a .types .now) now)))
-
-add-data-len : tie.Need-add-data-len
-add-data-len c = search needs
-
-data-len-requires : tie.Need-data-len-requires
-data-len-requires c κs = search needs
-
-room-fault-requires-2 : tie.Need-room-fault-requires-2
-room-fault-requires-2 c κs = search needs
 
 returns-2 : tie.Need-returns-2
 returns-2 c =
@@ -80,14 +53,14 @@ pub space-fault-spec : {M : Type 1} → statement M
 space-fault-spec =
     tie.close
     (tie.spec
-    names-len-requires
-    mul-front
-    add-front
-    add-front-2
-    add-front-3
-    room-fault-requires
+    (λ c κs. search needs)
+    (λ c. search needs)
+    (λ c. search needs)
+    (λ c. search needs)
+    (λ c. search needs)
+    (λ c κs. search needs)
     returns
-    add-data-len
-    data-len-requires
-    room-fault-requires-2
+    (λ c. search needs)
+    (λ c κs. search needs)
+    (λ c κs. search needs)
     returns-2)

@@ -11,27 +11,6 @@ use Rattle.exports.proofs.Laws.{pushed-stored}
 use Rattle.exports.proofs.put_pushed.Statement.{statement}
 use Rattle.exports.proofs.put_pushed.Tie as tie
 
-push-read-requires : tie.Need-push-read-requires
-push-read-requires c κs = search needs
-
-put-answer-requires : tie.Need-put-answer-requires
-put-answer-requires c κs = search needs
-
-push-code-requires : tie.Need-push-code-requires
-push-code-requires c κs = search needs
-
-put64-requires : tie.Need-put64-requires
-put64-requires c κs = search needs
-
-put64-requires-2 : tie.Need-put64-requires-2
-put64-requires-2 c κs = search needs
-
-put64-requires-3 : tie.Need-put64-requires-3
-put64-requires-3 c κs = search needs
-
-same-length : tie.Need-same-length
-same-length c = search needs
-
 returns : tie.Need-returns
 returns c =
     let a = c .before .before .before .before .before .before .before .before .before .before .before .before .before .before .before .before .before .before .before .args in
@@ -50,11 +29,11 @@ pub put-pushed-spec : {M : Type 1} → statement M
 put-pushed-spec =
     tie.close
     (tie.spec
-    push-read-requires
-    put-answer-requires
-    push-code-requires
-    put64-requires
-    put64-requires-2
-    put64-requires-3
-    same-length
+    (λ c κs. search needs)
+    (λ c κs. search needs)
+    (λ c κs. search needs)
+    (λ c κs. search needs)
+    (λ c κs. search needs)
+    (λ c κs. search needs)
+    (λ c. search needs)
     returns)

@@ -9,30 +9,12 @@ use Rattle.feed.proofs.Laws.Rows.{passed-part, passed-whole}
 use Rattle.feed.proofs.pass.Statement.{statement}
 use Rattle.feed.proofs.pass.Tie as tie
 
-sub-passing : tie.Need-sub-passing
-sub-passing c = search needs
-
-passing-requires : tie.Need-passing-requires
-passing-requires c κs = search needs
-
-waits-requires : tie.Need-waits-requires
-waits-requires c κs = search needs
-
 returns : tie.Need-returns
 returns c =
     let a = c .before .before .before .args in
     c .waits .ensures
     ∙ ap (λ (f : Feed). pushed Nothing f (a .n)) (c .before .passing .ensures)
     ∙ sym (passed-part (a .layout) (a .room) (a .step) (a .left) (a .n) (c .before .before .if1 .taken))
-
-keeping-requires : tie.Need-keeping-requires
-keeping-requires c κs = search needs
-
-refusal-requires : tie.Need-refusal-requires
-refusal-requires c κs = search needs
-
-answers-requires : tie.Need-answers-requires
-answers-requires c κs = search needs
 
 returns-2 : tie.Need-returns-2
 returns-2 c =
@@ -45,11 +27,11 @@ pub pass-spec : {M : Type 1} → statement M
 pass-spec =
     tie.close
     (tie.spec
-    sub-passing
-    passing-requires
-    waits-requires
+    (λ c. search needs)
+    (λ c κs. search needs)
+    (λ c κs. search needs)
     returns
-    keeping-requires
-    refusal-requires
-    answers-requires
+    (λ c κs. search needs)
+    (λ c κs. search needs)
+    (λ c κs. search needs)
     returns-2)

@@ -12,24 +12,6 @@ use Rattle.feed.proofs.Laws.Code.{body-waits, body-reads}
 use Rattle.feed.proofs.take_body.Statement.{statement}
 use Rattle.feed.proofs.take_body.Tie as tie
 
-missing-requires : tie.Need-missing-requires
-missing-requires c κs = search needs
-
-fill-requires : tie.Need-fill-requires
-fill-requires c κs = search needs
-
-add-keeping : tie.Need-add-keeping
-add-keeping c = search needs
-
-keeping-requires : tie.Need-keeping-requires
-keeping-requires c κs = search needs
-
-waits-requires : tie.Need-waits-requires
-waits-requires c κs = search needs
-
-same-length : tie.Need-same-length
-same-length c = search needs
-
 returns : tie.Need-returns
 returns c =
     let start = c .before .before .before .before .before .before .before .before .before .before in
@@ -41,21 +23,6 @@ returns c =
           ∙ body-waits (a .layout) (a .kept) (a .fragment .now) (a .buffer .now) (start .pre .0) (a .end) (start .pre .1) short,
       c .before .before .before .before .before .fill .ensures,
     )
-
-first-requires : tie.Need-first-requires
-first-requires c κs = search needs
-
-read-requires : tie.Need-read-requires
-read-requires c κs = search needs
-
-keeping-requires-2 : tie.Need-keeping-requires-2
-keeping-requires-2 c κs = search needs
-
-answers-requires : tie.Need-answers-requires
-answers-requires c κs = search needs
-
-same-length-2 : tie.Need-same-length-2
-same-length-2 c = search needs
 
 returns-2 : tie.Need-returns-2
 returns-2 c =
@@ -75,16 +42,16 @@ pub take-body-spec : {M : Type 1} → statement M
 take-body-spec =
     tie.close
     (tie.spec
-    missing-requires
-    fill-requires
-    add-keeping
-    keeping-requires
-    waits-requires
-    same-length
+    (λ c κs. search needs)
+    (λ c κs. search needs)
+    (λ c. search needs)
+    (λ c κs. search needs)
+    (λ c κs. search needs)
+    (λ c. search needs)
     returns
-    first-requires
-    read-requires
-    keeping-requires-2
-    answers-requires
-    same-length-2
+    (λ c κs. search needs)
+    (λ c κs. search needs)
+    (λ c κs. search needs)
+    (λ c κs. search needs)
+    (λ c. search needs)
     returns-2)

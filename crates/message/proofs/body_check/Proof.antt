@@ -11,47 +11,20 @@ use Rattle.message.proofs.Laws.Stream.{body-as, body-clean, checks-vers
 use Rattle.message.proofs.body_check.Statement.{statement}
 use Rattle.message.proofs.body_check.Tie as tie
 
-version-fault-requires : tie.Need-version-fault-requires
-version-fault-requires c κs = search needs
-
-marked-requires : tie.Need-marked-requires
-marked-requires c κs = search needs
-
 returns : tie.Need-returns
 returns c =
     let a = c .before .before .before .before .before .args in
     c .marked .ensures ∙ body-as (a .layout) (a .version) (a .crc) (a .type-text .now) (a .body .now) (c .before .before .version-fault .result) false (checks-version (a .layout) (a .version) (a .crc) (a .type-text .now) (a .body .now) (c .before .before .version-fault .result) (c .before .before .version-fault .ensures) (c .before .if1 .taken)) (c .before .if1 .taken)
-
-crc64-requires : tie.Need-crc64-requires
-crc64-requires c κs = search needs
-
-marked-requires-2 : tie.Need-marked-requires-2
-marked-requires-2 c κs = search needs
 
 returns-2 : tie.Need-returns-2
 returns-2 c =
     let a = c .before .before .before .before .before .before .before .args in
     c .marked2 .ensures ∙ body-as (a .layout) (a .version) (a .crc) (a .type-text .now) (a .body .now) 5 false (checks-crc (a .layout) (a .version) (a .crc) (a .type-text .now) (a .body .now) (sym (c .before .before .before .before .version-fault .ensures) ∙ c .before .before .before .if1 .left) (λ z. c .before .if2 .taken (c .before .before .crc64 .ensures ∙ z))) (λ z. omega (arith, z))
 
-extended-fault-requires : tie.Need-extended-fault-requires
-extended-fault-requires c κs = search needs
-
-marked-requires-3 : tie.Need-marked-requires-3
-marked-requires-3 c κs = search needs
-
 returns-3 : tie.Need-returns-3
 returns-3 c =
     let a = c .before .before .before .before .before .before .before .before .before .args in
     c .marked3 .ensures ∙ body-as (a .layout) (a .version) (a .crc) (a .type-text .now) (a .body .now) (c .before .before .extended-fault .result) false (checks-body (a .layout) (a .version) (a .crc) (a .type-text .now) (a .body .now) (c .before .before .extended-fault .result) (sym (c .before .before .before .before .before .before .version-fault .ensures) ∙ c .before .before .before .before .before .if1 .left) (sym (c .before .before .before .before .crc64 .ensures) ∙ c .before .before .before .if2 .left) (c .before .before .extended-fault .ensures) (c .before .if3 .taken)) (c .before .if3 .taken)
-
-part-requires : tie.Need-part-requires
-part-requires c κs = search needs
-
-sizes-fault-requires : tie.Need-sizes-fault-requires
-sizes-fault-requires c κs = search needs
-
-marked-requires-4 : tie.Need-marked-requires-4
-marked-requires-4 c κs = search needs
 
 returns-4 : tie.Need-returns-4
 returns-4 c =
@@ -61,12 +34,6 @@ returns-4 c =
     let metadata = c .before .before .before .part .ensures ∙ ap (λ (p : Places). part (p .«metadata_len») (p .«metadata_at») (a .body .now)) (o .before .before .before .pre) in
     let n = c .before .before .sizes-fault .ensures ∙ ap (sizesFault (a .layout) (a .version) (a .body .now)) metadata in
     c .marked4 .ensures ∙ body-as (a .layout) (a .version) (a .crc) (a .type-text .now) (a .body .now) (c .before .before .sizes-fault .result) false (checks-sizes (a .layout) (a .version) (a .crc) (a .type-text .now) (a .body .now) (sym (o .version-fault .ensures) ∙ d .before .before .before .before .if1 .left) (sym (d .before .before .before .crc64 .ensures) ∙ d .before .before .if2 .left) (sym (d .before .extended-fault .ensures) ∙ d .if3 .left) (c .before .before .sizes-fault .result) n (c .before .if4 .taken)) (c .before .if4 .taken)
-
-part-requires-2 : tie.Need-part-requires-2
-part-requires-2 c κs = search needs
-
-contents-check-requires : tie.Need-contents-check-requires
-contents-check-requires c κs = search needs
 
 returns-5 : tie.Need-returns-5
 unfolding sectionsFault bodyClean
@@ -88,19 +55,19 @@ pub body-check-spec : {M : Type 1} → statement M
 body-check-spec =
     tie.close
     (tie.spec
-    version-fault-requires
-    marked-requires
+    (λ c κs. search needs)
+    (λ c κs. search needs)
     returns
-    crc64-requires
-    marked-requires-2
+    (λ c κs. search needs)
+    (λ c κs. search needs)
     returns-2
-    extended-fault-requires
-    marked-requires-3
+    (λ c κs. search needs)
+    (λ c κs. search needs)
     returns-3
-    part-requires
-    sizes-fault-requires
-    marked-requires-4
+    (λ c κs. search needs)
+    (λ c κs. search needs)
+    (λ c κs. search needs)
     returns-4
-    part-requires-2
-    contents-check-requires
+    (λ c κs. search needs)
+    (λ c κs. search needs)
     returns-5)

@@ -25,39 +25,12 @@ add-content-at c = omega (arith, c .before .before .before .before .before .pre 
 add-metadata-at : tie.Need-add-metadata-at
 add-metadata-at c = omega (arith, c .before .before .before .before .before .pre .0 refl .0, c .before .before .before .before .before .pre .1)
 
-index-size-requires : tie.Need-index-size-requires
-index-size-requires c κs = search needs
-
 extended-numbers-requires : tie.Need-extended-numbers-requires
 extended-numbers-requires c κs = let start = c .before .before .before .before .before .before in
     subst (λ (k : ℕ). MetadataFits (start .args .layout) k (length (start .args .metadata .now))) (sym (c .index-size .ensures)) (start .pre .0 refl .1)
 
 cast-put16 : tie.Need-cast-put16
 cast-put16 c = search (needs, c .before .before .before .before .before .before .before .pre .0 refl .0)
-
-put16-requires : tie.Need-put16-requires
-put16-requires c κs = search needs
-
-put16-requires-2 : tie.Need-put16-requires-2
-put16-requires-2 c κs = search needs
-
-put32-requires : tie.Need-put32-requires
-put32-requires c κs = search needs
-
-put32-requires-2 : tie.Need-put32-requires-2
-put32-requires-2 c κs = search needs
-
-put-requires : tie.Need-put-requires
-put-requires c κs = search needs
-
-put-clean-requires : tie.Need-put-clean-requires
-put-clean-requires c κs = search needs
-
-put-requires-2 : tie.Need-put-requires-2
-put-requires-2 c κs = search needs
-
-same-length : tie.Need-same-length
-same-length c = search needs
 
 returns : tie.Need-returns
 returns c =
@@ -99,15 +72,15 @@ put-extended-spec =
     (tie.spec
     add-content-at
     add-metadata-at
-    index-size-requires
+    (λ c κs. search needs)
     extended-numbers-requires
     cast-put16
-    put16-requires
-    put16-requires-2
-    put32-requires
-    put32-requires-2
-    put-requires
-    put-clean-requires
-    put-requires-2
-    same-length
+    (λ c κs. search needs)
+    (λ c κs. search needs)
+    (λ c κs. search needs)
+    (λ c κs. search needs)
+    (λ c κs. search needs)
+    (λ c κs. search needs)
+    (λ c κs. search needs)
+    (λ c. search needs)
     returns)

@@ -12,24 +12,12 @@ use Rattle.message.proofs.extended.index_size_fault.Tie as tie
 enum-told : tie.Need-enum-told
 enum-told c = search needs
 
-be16-requires : tie.Need-be16-requires
-be16-requires c κs = search needs
-
-cast-if1 : tie.Need-cast-if1
-cast-if1 c = search needs
-
-index-size-requires : tie.Need-index-size-requires
-index-size-requires c κs = search needs
-
 returns : tie.Need-returns
 returns c =
     let a = c .before .before .before .before .before .before .before .args in
     sym
     (ap (λ (l : Layout). indexSizeFault l (a .body .now) (a .section .now)) (c .before .before .before .enum-told .given .1)
     ∙ ap (λ (t : Bool). cond t 0 7) (eq-eqb (indexAt (a .body .now)) (indexSizeIn (a .section .now)) (sym (c .before .before .be16 .ensures) ∙ c .if1 .taken ∙ c .before .index-size .ensures)))
-
-enum-told-2 : tie.Need-enum-told-2
-enum-told-2 c = search needs
 
 returns-2 : tie.Need-returns-2
 returns-2 c =
@@ -38,8 +26,15 @@ returns-2 c =
     (ap (λ (l : Layout). indexSizeFault l (a .body .now) (a .section .now)) (c .before .before .before .enum-told .given .1)
     ∙ ap (λ (t : Bool). cond t 0 7) (ne-eqb (indexAt (a .body .now)) (indexSizeIn (a .section .now)) (λ z. c .if1 .left (c .before .before .be16 .ensures ∙ z ∙ sym (c .before .index-size .ensures)))))
 
-returns-3 : tie.Need-returns-3
-returns-3 c = search needs
-
 pub index-size-fault-spec : {M : Type 1} → statement M
-index-size-fault-spec = tie.close (tie.spec enum-told be16-requires cast-if1 index-size-requires returns enum-told-2 returns-2 returns-3)
+index-size-fault-spec =
+    tie.close
+    (tie.spec
+    enum-told
+    (λ c κs. search needs)
+    (λ c. search needs)
+    (λ c κs. search needs)
+    returns
+    (λ c. search needs)
+    returns-2
+    (λ c. search needs))

@@ -10,30 +10,6 @@ use Rattle.message.proofs.extended.section_size.Tie as tie
 enum-told : tie.Need-enum-told
 enum-told c = search needs
 
-be16-requires : tie.Need-be16-requires
-be16-requires c κs = search needs
-
-cast-result : tie.Need-cast-result
-cast-result c = search needs
-
-be32-requires : tie.Need-be32-requires
-be32-requires c κs = search needs
-
-cast-result-2 : tie.Need-cast-result-2
-cast-result-2 c = search needs
-
-add-result : tie.Need-add-result
-add-result c = search needs
-
-enum-told-2 : tie.Need-enum-told-2
-enum-told-2 c = search needs
-
-be16-requires-2 : tie.Need-be16-requires-2
-be16-requires-2 c κs = search needs
-
-cast-result-3 : tie.Need-cast-result-3
-cast-result-3 c = search needs
-
 returns : tie.Need-returns
 returns c =
     let b = c .before .before .before .before .before .args .body .now in
@@ -43,4 +19,17 @@ returns-2 : tie.Need-returns-2
 returns-2 c = c .be162 .ensures ∙ sym (ap (λ (l : Layout). sectionSize l (c .before .before .before .before .args .body .now)) (c .before .enum-told2 .given .1))
 
 pub section-size-spec : {M : Type 1} → statement M
-section-size-spec = tie.close (tie.spec enum-told be16-requires cast-result be32-requires cast-result-2 add-result enum-told-2 be16-requires-2 cast-result-3 returns returns-2)
+section-size-spec =
+    tie.close
+    (tie.spec
+    enum-told
+    (λ c κs. search needs)
+    (λ c. search needs)
+    (λ c κs. search needs)
+    (λ c. search needs)
+    (λ c. search needs)
+    (λ c. search needs)
+    (λ c κs. search needs)
+    (λ c. search needs)
+    returns
+    returns-2)

@@ -7,26 +7,17 @@ use borrow.Author.Needs.{needs}
 use Rattle.metadata.proofs.entry_walk.entry_ok.Statement.{statement}
 use Rattle.metadata.proofs.entry_walk.entry_ok.Tie as tie
 
-key-size-requires : tie.Need-key-size-requires
-key-size-requires c κs = search needs
-
 returns : tie.Need-returns
 unfolding entryOk
 returns c =
     let k = c .before .key-size in
     sym (simp (sym (k .ensures)) (simp (le-ltb 0 (k .result) (omega arith))))
 
-entry-size-requires : tie.Need-entry-size-requires
-entry-size-requires c κs = search needs
-
 returns-2 : tie.Need-returns-2
 unfolding entryOk
 returns-2 c =
     let k = c .before .before .before .key-size in
     sym (simp (sym (c .before .entry-size .ensures)) (simp (sym (k .ensures)) (simp (lt-ltb 0 (k .result) (omega arith), lt-leb _ _ (c .if2 .taken)))))
-
-first-requires : tie.Need-first-requires
-first-requires c κs = search needs
 
 is-text-requires : tie.Need-is-text-requires
 is-text-requires c κs = search needs
@@ -44,10 +35,10 @@ pub entry-ok-spec : {M : Type 1} → statement M
 entry-ok-spec =
     tie.close
     (tie.spec
-    key-size-requires
+    (λ c κs. search needs)
     returns
-    entry-size-requires
+    (λ c κs. search needs)
     returns-2
-    first-requires
+    (λ c κs. search needs)
     is-text-requires
     returns-3)

@@ -21,43 +21,16 @@ Inv-loop section key h₀ d₀ left₀ h d left = (length d ≤ length section) 
 abbrev μ-loop : tie.MeasureT-loop
 μ-loop section key h₀ d₀ left₀ h d left = left
 
-headers-of-requires : tie.Need-headers-of-requires Inv-loop μ-loop
-headers-of-requires c κs = search needs
-
-data-of-requires : tie.Need-data-of-requires Inv-loop μ-loop
-data-of-requires c κs = search needs
-
-index-count-requires : tie.Need-index-count-requires Inv-loop μ-loop
-index-count-requires c κs = search needs
-
 loop-holds : tie.Need-loop-holds Inv-loop μ-loop
 loop-holds c =
     let s = c .before .before .before .before .before .args .section .now in
     let d = c .before .data-of .ensures in
     (omega (arith, ap length d, length-drop (2 + 8 * indexCount s) s), simp (c .index-count .ensures, c .before .before .headers-of .ensures, d))
 
-key-size-requires : tie.Need-key-size-requires Inv-loop μ-loop
-key-size-requires c κs = search needs
-
-first-requires : tie.Need-first-requires Inv-loop μ-loop
-first-requires c κs = search needs
-
-same-requires : tie.Need-same-requires Inv-loop μ-loop
-same-requires c κs = search needs
-
-encoding-of-requires : tie.Need-encoding-of-requires Inv-loop μ-loop
-encoding-of-requires c κs = search needs
-
-rest-requires : tie.Need-rest-requires Inv-loop μ-loop
-rest-requires c κs = search needs
-
 sub-t16 : tie.Need-sub-t16 Inv-loop μ-loop
 sub-t16 c =
     let a = c .before .before .before .before .before in
     omega (arith, ap length (c .rest .ensures), length-drop (a .key-size .result) (a .before .before .loop .d .now))
-
-value-size-requires : tie.Need-value-size-requires Inv-loop μ-loop
-value-size-requires c κs = search needs
 
 returns : tie.Need-returns Inv-loop μ-loop
 returns c =
@@ -70,21 +43,6 @@ returns c =
     let r = c .before .rest .ensures ∙ ap (λ (m : ℕ). drop m (l .d .now)) (c .before .before .before .before .before .before .key-size .ensures) in
     (λ i. record { number = 0; encoding = c .before .before .encoding-of .ensures i; at = n - length (r i); len = c .value-size .ensures i })
     ∙ sym (l .inv .1 ∙ s ∙ search-found n (l .h .now) (l .d .now) (z .key .now) (l .left - 1) e)
-
-entry-size-requires : tie.Need-entry-size-requires Inv-loop μ-loop
-entry-size-requires c κs = search needs
-
-rest-requires-2 : tie.Need-rest-requires-2 Inv-loop μ-loop
-rest-requires-2 c κs = search needs
-
-after-header-requires : tie.Need-after-header-requires Inv-loop μ-loop
-after-header-requires c κs = search needs
-
-sub-left : tie.Need-sub-left Inv-loop μ-loop
-sub-left c = search needs
-
-loop-less : tie.Need-loop-less Inv-loop μ-loop
-loop-less c = search needs
 
 loop-again : tie.Need-loop-again Inv-loop μ-loop
 loop-again c =
@@ -102,9 +60,6 @@ loop-again c =
           ∙ ap₂ (λ (g r : List ℕ). placeIn n (l .left - 1) g r (z .key .now)) (sym (c .after-header .ensures)) (sym d),
     )
 
-refused-requires : tie.Need-refused-requires Inv-loop μ-loop
-refused-requires c κs = search needs
-
 returns-2 : tie.Need-returns-2 Inv-loop μ-loop
 unfolding placeIn
 returns-2 c =
@@ -120,23 +75,23 @@ search-spec =
     (tie.spec
     Inv-loop
     μ-loop
-    headers-of-requires
-    data-of-requires
-    index-count-requires
+    (λ c κs. search needs)
+    (λ c κs. search needs)
+    (λ c κs. search needs)
     loop-holds
-    key-size-requires
-    first-requires
-    same-requires
-    encoding-of-requires
-    rest-requires
+    (λ c κs. search needs)
+    (λ c κs. search needs)
+    (λ c κs. search needs)
+    (λ c κs. search needs)
+    (λ c κs. search needs)
     sub-t16
-    value-size-requires
+    (λ c κs. search needs)
     returns
-    entry-size-requires
-    rest-requires-2
-    after-header-requires
-    sub-left
-    loop-less
+    (λ c κs. search needs)
+    (λ c κs. search needs)
+    (λ c κs. search needs)
+    (λ c. search needs)
+    (λ c. search needs)
     loop-again
-    refused-requires
+    (λ c κs. search needs)
     returns-2)

@@ -6,20 +6,11 @@ use borrow.Author.Needs.{needs}
 use Rattle.metadata.proofs.section_parts.entry_size.Statement.{statement}
 use Rattle.metadata.proofs.section_parts.entry_size.Tie as tie
 
-key-size-requires : tie.Need-key-size-requires
-key-size-requires c κs = search needs
-
-value-size-requires : tie.Need-value-size-requires
-value-size-requires c κs = search needs
-
 add-result : tie.Need-add-result
 add-result c =
     let h = c .before .before .before .args .headers .now in
     let b : Bytes h = λ i. c .before .before .shared-slice-known .given i .fits in
     omega (arith, c .before .key-size .ensures, c .value-size .ensures, beAt-lt 2 0 h b, beAt-lt 4 4 h b)
 
-returns : tie.Need-returns
-returns c = search needs
-
 pub entry-size-spec : {M : Type 1} → statement M
-entry-size-spec = tie.close (tie.spec key-size-requires value-size-requires add-result returns)
+entry-size-spec = tie.close (tie.spec (λ c κs. search needs) (λ c κs. search needs) add-result (λ c. search needs))

@@ -8,27 +8,6 @@ use Rattle.panel.proofs.Laws.Calls.{label-unknown, label-done}
 use Rattle.panel.proofs.Panel.count_by_label.Statement.{statement}
 use Rattle.panel.proofs.Panel.count_by_label.Tie as tie
 
-type-text-requires : tie.Need-type-text-requires
-type-text-requires c κs = search needs
-
-device-name-requires : tie.Need-device-name-requires
-device-name-requires c κs = search needs
-
-label-of-requires : tie.Need-label-of-requires
-label-of-requires c κs = search needs
-
-content-requires : tie.Need-content-requires
-content-requires c κs = search needs
-
-value-of-requires : tie.Need-value-of-requires
-value-of-requires c κs = search needs
-
-count-for-all-requires : tie.Need-count-for-all-requires
-count-for-all-requires c κs = search needs
-
-refused-call-requires : tie.Need-refused-call-requires
-refused-call-requires c κs = search needs
-
 returns : tie.Need-returns
 returns c =
     let w = c .before .before .before in
@@ -53,12 +32,12 @@ pub count-by-label-spec : {M : Type 1} → statement M
 count-by-label-spec =
     tie.close
     (tie.spec
-    type-text-requires
-    device-name-requires
-    label-of-requires
-    content-requires
-    value-of-requires
-    count-for-all-requires
-    refused-call-requires
+    (λ c κs. search needs)
+    (λ c κs. search needs)
+    (λ c κs. search needs)
+    (λ c κs. search needs)
+    (λ c κs. search needs)
+    (λ c κs. search needs)
+    (λ c κs. search needs)
     returns
     returns-2)
