@@ -1,0 +1,16 @@
+-- `fields::store::put` meets its contract. The loop's invariant: the first `i` bytes of what fits are stored.
+use Prim.Native.Nat.{ℕ, ◌≤◌, ◌-◌, ◌+◌}
+use mathlib.Core.List.{List}
+use mathlib.Core.Path.{◌≡◌, refl, ap, sym, ◌∙◌}
+use native.Mathlib.Omega.{arith}
+use lib.ListN.{length, get_or, take, set, length-set, length-take}
+use lib.Seq.{sets, take_all}
+use borrow.Author.Rules.{rules}
+use Rattle.fields.proofs.Laws.Stores.{put_next, sets-take, sets-past}
+use Rattle.fields.proofs.store.put.Given as goal
+
+abbrev pub invariant-loop-i : goal.invariant-loop-i
+invariant-loop-i l = (l.i ≤ length l.t) × (l.at + length l.t ≤ length l.initial.out) × (length l.out ≡ length l.initial.out) × (l.out ≡ sets l.initial.out l.at (take l.i l.t))
+
+abbrev pub decreases-loop-i : goal.decreases-loop-i
+decreases-loop-i l = length l.t - l.i

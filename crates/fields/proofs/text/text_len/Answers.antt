@@ -1,0 +1,29 @@
+use Prim.Native.Nat.{◌-◌, ◌+◌}
+use mathlib.Core.Path.{◌≡◌}
+use native.Mathlib.Omega.{arith}
+use lib.ListN.{length, drop}
+use borrow.Author.Rules.{rules}
+use Rattle.fields.specs.Text.{text_of}
+use Rattle.fields.proofs.Laws.Text.{text-end, text-stop, text-step}
+use Rattle.fields.proofs.text.text_len.Goals as goal
+
+pub loop-i-init : goal.loop-i-init
+loop-i-init c = omega arith
+
+pub returns-then-s-i-eq0 : goal.returns-then-s-i-eq0
+returns-then-s-i-eq0 c =
+    let s = c.args.s.now in
+    let l = c.loop-i in
+    omega (arith, l.invariant, text-stop s l.i (omega arith) c.if-s-i-eq0.true)
+
+pub loop-i-preserved : goal.loop-i-preserved
+loop-i-preserved c =
+    let s = c.args.s.now in
+    let l = c.loop-i in
+    omega (arith, l.invariant, text-step s l.i (omega arith) c.if-s-i-eq0.false)
+
+pub returns : goal.returns
+returns c =
+    let s = c.args.s.now in
+    let l = c.loop-i in
+    omega (arith, l.invariant, text-end s l.i (omega arith))

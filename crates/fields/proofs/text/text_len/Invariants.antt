@@ -1,0 +1,15 @@
+-- `fields::text::text_len` meets its contract. The loop's invariant: the length is `i` and that of the text from `i` on.
+use Prim.Native.Nat.{◌-◌, ◌+◌}
+use mathlib.Core.Path.{◌≡◌}
+use native.Mathlib.Omega.{arith}
+use lib.ListN.{length, drop}
+use borrow.Author.Rules.{rules}
+use Rattle.fields.specs.Text.{text_of}
+use Rattle.fields.proofs.Laws.Text.{text-end, text-stop, text-step}
+use Rattle.fields.proofs.text.text_len.Given as goal
+
+abbrev pub invariant-loop-i : goal.invariant-loop-i
+invariant-loop-i l = length (text_of l.s) ≡ l.i + length (text_of (drop l.i l.s))
+
+abbrev pub decreases-loop-i : goal.decreases-loop-i
+decreases-loop-i l = length l.s - l.i
