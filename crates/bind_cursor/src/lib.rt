@@ -7,7 +7,7 @@ ghost use Rattle.bind_cursor.specs.Cursor.{names_of, no_child, child_at, first_o
 // The number (rule 5.1), how many children there are from this one on, and where this one's type, name and data stand in the content and how
 // long they are. Where `left` is 0 there is no child, and all places are 0: after the last child with number 0, or where refused. `clean` is
 // the mark of the whole content (rule 13.4): false where refused.
-#[derive(Drop)]
+#[derive(Clone, Copy)]
 pub struct Cursor {
     pub number: u8,
     pub left: usize,

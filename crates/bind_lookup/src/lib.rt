@@ -10,7 +10,7 @@ ghost use Rattle.bind_lookup.specs.EitherLookup.{sourced, either_place, either_p
 
 // The number (rule 5.1), and how many children there are: 0 where refused. In each of these answers `clean` is the mark of the whole bundle
 // answered from (rule 13.4): false where refused.
-#[derive(Drop)]
+#[derive(Clone, Copy)]
 pub struct ChildCount {
     pub number: u8,
     pub count: usize,
@@ -18,7 +18,7 @@ pub struct ChildCount {
 }
 
 // The number (rule 5.1), and where a child's data stands in the content and how long it is: both 0 where refused.
-#[derive(Drop)]
+#[derive(Clone, Copy)]
 pub struct Place {
     pub number: u8,
     pub at: usize,
@@ -27,7 +27,7 @@ pub struct Place {
 }
 
 // Which of two bundles a child is in: the site's, the default one, or neither where the look-up is refused.
-#[derive(Drop)]
+#[derive(Clone, Copy)]
 pub enum Source {
     Site,
     Default,
@@ -35,7 +35,7 @@ pub enum Source {
 }
 
 // The same place, in the bundle that the source names.
-#[derive(Drop)]
+#[derive(Clone, Copy)]
 pub struct EitherPlace {
     pub number: u8,
     pub source: Source,
@@ -45,7 +45,7 @@ pub struct EitherPlace {
 }
 
 // The number, a child's data, which bundle it is a part of, and that bundle's mark. The part of a refusal is empty.
-#[derive(Drop)]
+#[derive(Clone, Copy)]
 pub struct Found<'a> {
     pub number: u8,
     pub part: &'a [u8],

@@ -11,7 +11,7 @@ pub const DEEPEST: u32 = 4;
 pub const NESTED_LEVELS: u32 = DEEPEST - 1;
 
 // The types that have a rule; the content of any other type is opaque (rule 4.1).
-#[derive(Drop)]
+#[derive(Clone, Copy)]
 enum Kind {
     Transform,
     Position,

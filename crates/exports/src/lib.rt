@@ -138,7 +138,7 @@ pub extern "C" fn kudireppa_write(
 // ---- feeds
 
 // What the last push gave, and how many bytes all of them took.
-#[derive(Drop)]
+#[derive(Clone, Copy)]
 struct Fed {
     last: PushResult,
     total: usize,

@@ -16,7 +16,7 @@ use message::{Layout, refusal};
 // that exceeds the buffer and is passed over: its length, and how many of its bytes are left; otherwise both are 0. And whether an answer was 2 or
 // 3. Each push gets the feed that the last one returned: an older copy stands for an older place in the stream. The opening names the layout that the
 // sender writes (rule 3.15).
-#[derive(Drop)]
+#[derive(Clone, Copy)]
 pub struct Feed {
     layout: Layout,
     room: usize,
@@ -26,14 +26,14 @@ pub struct Feed {
     stopped: bool,
 }
 
-#[derive(Drop)]
+#[derive(Clone, Copy)]
 pub enum OpenAnswer {
     Opened(Feed),
     Refused(u8),
 }
 
 // Of a push: no answer yet, or the answer to a message or to a header that is refused, or the push itself is refused.
-#[derive(Drop)]
+#[derive(Clone, Copy)]
 pub enum PushAnswer {
     Nothing,
     Read(message::Answer),
@@ -41,7 +41,7 @@ pub enum PushAnswer {
 }
 
 // The feed for the next push, the answer, and how many bytes of the fragment were taken.
-#[derive(Drop)]
+#[derive(Clone, Copy)]
 pub struct PushResult {
     pub feed: Feed,
     pub answer: PushAnswer,

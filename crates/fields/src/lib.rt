@@ -11,7 +11,7 @@ ghost use Rattle.fields.specs.Answer.{checked, written_number, written_count, ro
 
 // The answer of a check: the number (rule 5.1), 0 for none, and the mark (rule 13.2), which says whether all texts checked are clean. A
 // refusal's mark is false (rule 13.3).
-#[derive(Drop)]
+#[derive(Clone, Copy)]
 pub struct Checked {
     pub number: u8,
     pub clean: bool,
@@ -41,7 +41,7 @@ pub fn both(a: bool, b: bool) -> bool
 }
 
 // The answer of a writer: how many bytes it wrote, or the number of the refusal (rule 5.1).
-#[derive(Drop)]
+#[derive(Clone, Copy)]
 pub enum Written {
     Wrote(usize),
     Refused(u8),

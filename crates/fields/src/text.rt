@@ -9,7 +9,7 @@ const TEXT_LIMIT: u8 = 128;
 
 // What a text field is: do bytes 1 to 127 stand before its first 0 (rule 2.4), how many, and are there only zeros from that 0 on, so that
 // it also keeps rule 2.2? Where `ok` is false, `len` is 0 and `clean` is false.
-#[derive(Drop)]
+#[derive(Clone, Copy)]
 pub struct TextField {
     pub ok: bool,
     pub len: usize,

@@ -25,7 +25,7 @@ pub const BODY_LIMIT: usize = 16777216;
 
 // What the reader of a header hands out: the number (rule 5.1), 0 where accepted; the fields, with the lengths of the two texts; whether
 // both texts are clean (rule 13.2). Where refused, all but the number is 0, and `clean` is false.
-#[derive(Drop)]
+#[derive(Clone, Copy)]
 pub struct HeaderRead {
     pub number: u8,
     pub version: u16,
@@ -38,7 +38,7 @@ pub struct HeaderRead {
 }
 
 // The fields of a header besides its two texts.
-#[derive(Drop)]
+#[derive(Clone, Copy)]
 pub struct HeaderFields {
     pub version: u16,
     pub time_stamp: u64,

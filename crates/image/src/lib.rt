@@ -17,7 +17,7 @@ use fields::{Written, room_fault};
 pub const IMAGE_HEADER_SIZE: usize = 72;
 
 // The 72 bytes before the pixels (rule 4.5), each field with the protocol's name for it.
-#[derive(Drop)]
+#[derive(Clone, Copy)]
 pub struct ImageHeader {
     // V: any
     pub version: u16,
@@ -43,7 +43,7 @@ pub struct ImageHeader {
 }
 
 // The header is all zeros where the number is not 0.
-#[derive(Drop)]
+#[derive(Clone, Copy)]
 pub struct ImageRead {
     pub number: u8,
     pub header: ImageHeader,

@@ -17,7 +17,7 @@ pub(crate) const EXTENDED_LEAST: usize = 12;
 const FURTHER_LIMIT: usize = SIZE_LIMIT - EXTENDED_LEAST;
 
 // MSG_ID, and where the sections stand in the body.
-#[derive(Drop)]
+#[derive(Clone, Copy)]
 pub struct Places {
     pub id: u32,
     pub further_at: usize,

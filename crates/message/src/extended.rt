@@ -9,7 +9,7 @@ use crate::Layout;
 use fields::number::{SIZE_LIMIT, be16, be32};
 
 // The numbers after EXT_HEADER_SIZE, which have two, four and four bytes.
-#[derive(Drop)]
+#[derive(Clone, Copy)]
 pub struct ExtendedNumbers {
     pub second: u16,
     pub third: u32,

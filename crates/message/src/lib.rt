@@ -13,7 +13,7 @@ use fields::{Checked, Written, marked};
 use header::HEADER_SIZE;
 
 // The two layouts of the extended header (rule 3.6). Whoever reads or writes names one.
-#[derive(Drop)]
+#[derive(Clone, Copy)]
 pub enum Layout {
     New,
     Old,
@@ -32,7 +32,7 @@ pub fn layout_of(number: u64) -> Layout
 // What the reader makes of the front of a stream: the number (rule 5.1), 0 for accepted, and the step (rule 5.3), which is the length of
 // the message, but 0 where the number is 1, 2 or 3. Then the message's fields; the places of its parts are relative to the slice that was
 // read. All of these are 0 where refused. Last, whether every text in the message is clean (rule 13.2), false where refused.
-#[derive(Drop)]
+#[derive(Clone, Copy)]
 pub struct Answer {
     pub number: u8,
     pub step: usize,
@@ -51,7 +51,7 @@ pub struct Answer {
 }
 
 // The fields of a message that have a fixed size, as the writer is given them: V, TIME_STAMP, MSG_ID.
-#[derive(Drop)]
+#[derive(Clone, Copy)]
 pub struct FixedFields {
     pub version: u16,
     pub time_stamp: u64,

@@ -10,7 +10,7 @@ ghost use Rattle.metadata.specs.ValueLookup.{refused, value_place, value_of};
 
 // The number (rule 5.1), the value's VALUE_ENCODING, and where the value stands in the section and how long it is: all 0 besides the
 // number where refused.
-#[derive(Drop)]
+#[derive(Clone, Copy)]
 pub struct ValuePlace {
     pub number: u8,
     pub encoding: u16,

@@ -20,7 +20,7 @@ const WORD_SIZE: usize = 4;
 pub const MOST_WORDS: usize = 7;
 
 // The three columns of the rotation, each from its first row to its third; the translation (rule 4.2).
-#[derive(Drop)]
+#[derive(Clone, Copy)]
 pub struct Transform {
     pub column1: [u32; 3],
     pub column2: [u32; 3],
@@ -29,14 +29,14 @@ pub struct Transform {
 }
 
 // The number (rule 5.1), and the transform; all words are 0 where it is refused.
-#[derive(Drop)]
+#[derive(Clone, Copy)]
 pub struct TransformRead {
     pub number: u8,
     pub transform: Transform,
 }
 
 // The number (rule 5.1), and 3, 6 or 7 words, with zeros past them; none where it is refused.
-#[derive(Drop)]
+#[derive(Clone, Copy)]
 pub struct PositionRead {
     pub number: u8,
     pub count: usize,
