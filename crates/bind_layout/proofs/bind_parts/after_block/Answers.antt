@@ -1,0 +1,6 @@
+-- `bind_layout::bind_parts::after_block` meets its contract.
+use borrow.Author.Rules.{rules}
+use Rattle.bind_layout.proofs.bind_parts.after_block.Goals as goal
+
+pub returns : goal.returns
+returns c = simp (c.rest-2.ensures, c.rest.ensures)

@@ -1,0 +1,6 @@
+-- `bind_layout::bind_parts::table_of` meets its contract.
+use borrow.Author.Rules.{rules}
+use Rattle.bind_layout.proofs.bind_parts.table_of.Goals as goal
+
+pub returns : goal.returns
+returns c = simp (c.part.ensures, c.be16.ensures, c.after_headers-after.ensures)

@@ -1,0 +1,6 @@
+-- `bind_layout::bind_parts::type_of` meets its contract.
+use borrow.Author.Rules.{rules}
+use Rattle.bind_layout.proofs.bind_parts.type_of.Goals as goal
+
+pub returns : goal.returns
+returns c = simp (c.text_of.ensures, c.first.ensures)

@@ -1,0 +1,6 @@
+-- `header::put_header` meets its contract: six stores.
+use borrow.Author.Rules.{rules}
+use Rattle.header.proofs.put_header.Goals as goal
+
+pub returns : goal.returns
+returns c = cc

@@ -1,0 +1,8 @@
+-- `header::size_at` meets its contract: the number at 42.
+use borrow.Author.Rules.{rules}
+use Rattle.header.specs.HeaderReader.{header_of}
+use Rattle.header.proofs.size_at.Goals as goal
+
+pub returns : goal.returns
+unfolding header_of
+returns c = c.be64.ensures

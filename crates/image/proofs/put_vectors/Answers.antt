@@ -1,0 +1,6 @@
+-- `image::put_vectors` meets its contract: twelve stores.
+use borrow.Author.Rules.{rules}
+use Rattle.image.proofs.put_vectors.Goals as goal
+
+pub returns : goal.returns
+returns c = cc

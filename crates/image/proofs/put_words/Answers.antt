@@ -1,0 +1,6 @@
+-- `image::put_words` meets its contract: three stores.
+use borrow.Author.Rules.{rules}
+use Rattle.image.proofs.put_words.Goals as goal
+
+pub returns : goal.returns
+returns c = cc
