@@ -42,7 +42,7 @@ fn kind_of(type_text: &[u8]) -> Kind
 // The check of a content and the check of a BIND call each other (rule 9.1). The measure is twice the levels left and twice the bytes
 // left, and one more here, as this function hands on both as they are. A BIND hands a child one level less, and fewer bytes: its own four
 // bytes of counts are not part of any child.
-#[cycle(nested_bind_check_nested_check)]
+#[cycle(nested)]
 fn nested_check(type_text: &[u8], content: &[u8], levels: u32) -> Checked
     ensures { result ≡ content_checked levels type_text.now content.now }
 {
@@ -56,7 +56,7 @@ fn nested_check(type_text: &[u8], content: &[u8], levels: u32) -> Checked
 }
 
 // See nested_check for the measure. The children are walked once, down what is left of the headers and of the data.
-#[cycle(nested_bind_check_nested_check)]
+#[cycle(nested)]
 fn nested_bind_check(content: &[u8], levels: u32) -> Checked
     ensures { result ≡ bind_checked levels content.now }
 {

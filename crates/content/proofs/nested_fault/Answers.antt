@@ -1,0 +1,9 @@
+-- `content::nested_fault` meets its contract.
+use mathlib.Core.Path.{ap, ◌∙◌}
+use borrow.Author.Rules.{rules}
+use Rattle.fields.specs.declared.Checked.{Checked}
+use Rattle.content.proofs.Laws.ChildrenWalk.{content-fault}
+use Rattle.content.proofs.nested_fault.Goals as goal
+
+pub returns : goal.returns
+returns c = ap (λ (x : Checked). x.number) c.nested_check-answer.ensures ∙ content-fault _ _ _
