@@ -45,7 +45,7 @@ fn put_front(content: &[u8], at: usize, out: &mut [u8])
 
 // Writing a content and writing a BIND call each other. The measure is that of content's check: twice the levels left and twice the bytes
 // left, and one more here.
-#[cycle(put_bind_put_content)]
+#[cycle(put)]
 fn put_content(type_text: &[u8], content: &[u8], levels: u32, at: usize, out: &mut [u8])
     requires { at + length content.now ≤ length out.old }
     ensures { out.new ≡ sets out.old at (clean_bytes levels type_text.now content.now) }
@@ -58,7 +58,7 @@ fn put_content(type_text: &[u8], content: &[u8], levels: u32, at: usize, out: &m
 }
 
 // A BIND that is too deep, or not laid out as one, is written as it is given.
-#[cycle(put_bind_put_content)]
+#[cycle(put)]
 fn put_bind(content: &[u8], levels: u32, at: usize, out: &mut [u8])
     requires { at + length content.now ≤ length out.old }
     ensures { out.new ≡ sets out.old at (clean_bind levels content.now) }

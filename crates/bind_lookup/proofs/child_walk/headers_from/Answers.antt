@@ -1,0 +1,18 @@
+-- `bind_lookup::child_walk::headers_from` meets its contract: where there are not so many headers, nothing is left of them.
+use mathlib.Core.Path.{sym, ap}
+use Prim.Native.Nat.{◌*◌, ◌≤◌}
+use native.Mathlib.Omega.{arith}
+use lib.ListN.{length, drop_of_length-le}
+use borrow.Author.Rules.{rules}
+use Rattle.bind_layout.specs.BindLayout.{headers}
+use Rattle.bind_lookup.proofs.child_walk.headers_from.Goals as goal
+
+pub returns-then-h-i : goal.returns-then-h-i
+returns-then-h-i c =
+    let z = c.args in
+    let h = headers z.content.now in
+    let k : length h ≤ 20 * z.i = omega (arith, ap length c.headers-h.ensures, c.if-h-i.true) in
+    sym (drop_of_length-le h k)
+
+pub returns : goal.returns
+returns c = cc

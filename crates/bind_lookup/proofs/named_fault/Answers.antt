@@ -1,0 +1,8 @@
+-- `bind_lookup::named_fault` meets its contract.
+use mathlib.Core.Path.{ap}
+use Rattle.bind_lookup.specs.declared.Place.{Place}
+use borrow.Author.Rules.{rules}
+use Rattle.bind_lookup.proofs.named_fault.Goals as goal
+
+pub returns : goal.returns
+returns c = ap (λ (p : Place). p.number) c.named_place.ensures
