@@ -18,7 +18,7 @@ use Rattle.bind_lookup.specs.declared.Place.{Place}
 use Rattle.bind_lookup.specs.ChildLookup.{mark_of, headers_from, names_from, data_from, part_at}
 use Rattle.bind_lookup.specs.LookupTheorems.{HasChildren, AtIndex}
 use Rattle.bind_lookup.proofs.Laws.Lookup.{left-place}
-use Rattle.bind_lookup.proofs.Laws.LookupTheorems.{accepted, count-of, marks, inside, place_at, pad, type_at, name-from, child-content, lookup-theorems}
+use Rattle.bind_lookup.proofs.Laws.LookupTheorems.{accepted, count-of, marks, inside, place_at, pad, type-at, name-from, child-content, lookup-theorems}
 use Rattle.bind_cursor.specs.declared.Cursor.{Cursor}
 use Rattle.bind_cursor.specs.Cursor.{names_of, no_child, at_child, child_at, first_of, next_of, type_part, name_part, data_part}
 use Rattle.bind_cursor.specs.CursorTheorems.{after, handed_of, handed_at, walked, StandsAt, CursorTheorems}
@@ -159,7 +159,7 @@ module _ (s : List ℕ) (cs : List Child) (h : HasChildren s cs) where
 
     type-handed : type_part s x ≡ c.type_text
     type-handed =
-        ap (take (length (type_of (headers_from n s)))) (headers-place s n) ∙ type-front (headers_from n s) ∙ type_at s cs n c h k
+        ap (take (length (type_of (headers_from n s)))) (headers-place s n) ∙ type-front (headers_from n s) ∙ type-at s cs n c h k
 
     name-handed : name_part s x ≡ c.name
     name-handed =

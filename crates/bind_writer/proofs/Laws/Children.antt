@@ -87,7 +87,7 @@ module _ (ts : List (Bor (List ℕ))) (i : ℕ) (h : i < length ts) (cs : List C
   type_at = given-at (λ c. c.type_text) cs ts p i no_child refl
 
   -- by types and names: r and n say whether the texts at i pass
-  module _ (ns : List (MutBor (List ℕ))) (q : names_of cs ≡ map (λ x. x.now) ns) where
+  module _ (ns : List (Bor (List ℕ))) (q : names_of cs ≡ map (λ x. x.now) ns) where
     name-at : (get_or cs i no_child).name ≡ (get_or ns i none).now
     name-at = given-at (λ c. c.name) cs ns q i no_child refl
 

@@ -1,0 +1,19 @@
+-- `bind_writer::data_len` meets its contract. The loop's invariant: the first `i` contents and `left` make up `most`.
+use Prim.Native.Nat.{◌+◌, ◌-◌, ◌≤◌}
+use mathlib.Core.Path.{◌≡◌, ap}
+use mathlib.Core.List.{map}
+use native.Mathlib.Omega.{arith}
+use lib.ListN.{length, take, get_or}
+use borrow.Author.Rules.{rules}
+use Rattle.fields.specs.Lists.{flat}
+use Rattle.fields.proofs.Laws.Lists.{flat-none}
+use Rattle.bind_layout.specs.Children.{padded}
+use Rattle.bind_writer.proofs.Laws.Slices.{none, slices-all, length-slices-next, length-slices-le}
+use Rattle.bind_layout.proofs.Laws.Children.{length-padded}
+use Rattle.bind_writer.proofs.data_len.Given as goal
+
+abbrev pub invariant-loop-i : goal.invariant-loop-i
+invariant-loop-i l = (l.i ≤ length l.contents) × (length (flat padded (take l.i (map (λ x. x.now) l.contents))) + l.left ≡ l.most)
+
+abbrev pub decreases-loop-i : goal.decreases-loop-i
+decreases-loop-i l = length l.contents - l.i

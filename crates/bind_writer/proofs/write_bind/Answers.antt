@@ -1,0 +1,36 @@
+-- `bind_writer::write_bind` meets its contract: the law of a writer that refuses, and that of one that stored its bytes.
+use Prim.Native.Nat.{ℕ, ◌≤◌}
+use mathlib.Core.Path.{sym, subst, ◌∙◌}
+use mathlib.Core.List.{map}
+use lib.ListN.{length}
+use borrow.Author.Rules.{rules}
+use Rattle.fields.proofs.Laws.Writers.{refuses, stored}
+use Rattle.bind_writer.specs.BindWriter.{given_fault, bind_bytes}
+use Rattle.bind_writer.specs.ChildLists.{children}
+use Rattle.bind_writer.proofs.Laws.Encoding.{length-cleaned}
+use Rattle.bind_writer.proofs.Laws.Faults.{passed}
+use Rattle.bind_writer.proofs.write_bind.Goals as goal
+
+pub returns-then-fault-ne0 : goal.returns-then-fault-ne0
+returns-then-fault-ne0 c =
+    let a = c.args in
+    refuses (given_fault (map (λ x. x.now) a.types.now) (map (λ x. x.now) a.names.now) (map (λ x. x.now) a.contents.now)) (bind_bytes (map (λ x. x.now) a.types.now) (map (λ x. x.now) a.names.now) (map (λ x. x.now) a.contents.now)) a.out.now _ c.write_fault-fault.ensures c.if-fault-ne0.true
+
+pub put_children-n-requires : goal.put_children-n-requires
+put_children-n-requires c =
+    let a = c.args in
+    let ts = map (λ x. x.now) a.types.now in
+    let ns = map (λ x. x.now) a.names.now in
+    let ds = map (λ x. x.now) a.contents.now in
+    let p = passed ts ns ds (length a.out.now) (sym c.write_fault-fault.ensures ∙ c.if-fault-ne0.false) in
+    (p.lists, subst (λ (n : ℕ). n ≤ length a.out.now) (length-cleaned (children ts ns ds)) p.fits)
+
+pub returns : goal.returns
+returns c =
+    let a = c.args in
+    let ts = map (λ x. x.now) a.types.now in
+    let ns = map (λ x. x.now) a.names.now in
+    let ds = map (λ x. x.now) a.contents.now in
+    let put = c.put_children-n.ensures in
+    stored (given_fault ts ns ds) (bind_bytes ts ns ds) a.out.now _ _ (sym c.write_fault-fault.ensures ∙ c.if-fault-ne0.false)
+    (put.count ∙ sym (length-cleaned (children ts ns ds))) put.bytes

@@ -1,0 +1,57 @@
+-- `bind_writer::write_fault` meets its contract: the lists, the children, the room.
+use mathlib.Core.Path.{◌≡◌, sym, ◌∙◌}
+use mathlib.Core.Bool.{true}
+use mathlib.Core.List.{map}
+use borrow.Author.Tests.{not-true, not-false}
+use borrow.Author.Rules.{rules}
+use Rattle.bind_writer.specs.ChildLists.{children}
+use Rattle.bind_writer.specs.BindWriter.{lists_ok}
+use Rattle.bind_writer.proofs.Laws.Slices.{count_same}
+use Rattle.bind_writer.proofs.Laws.Children.{lists_of}
+use Rattle.bind_writer.proofs.Laws.Layout.{lists-passed}
+use Rattle.bind_writer.proofs.Laws.Faults.{by-lists, by-children, by-room}
+use Rattle.bind_writer.proofs.write_fault.Goals as goal
+
+pub returns-then-not-lists_ok : goal.returns-then-not-lists_ok
+returns-then-not-lists_ok c =
+    let a = c.args in
+    let g = c.lists_ok in
+    sym (by-lists (map (λ x. x.now) a.types.now) (map (λ x. x.now) a.names.now) (map (λ x. x.now) a.contents.now) a.room (sym g.ensures ∙ c.if-not-lists_ok.true))
+
+pub first_fault-fault-requires : goal.first_fault-fault-requires
+first_fault-fault-requires c =
+    let a = c.args in
+    let ts = a.types.now in
+    let ns = a.names.now in
+    let ds = a.contents.now in
+    let g = c.lists_ok in
+    (count_same ts ns ds (lists-passed (map (λ x. x.now) ts) (map (λ x. x.now) ns) (map (λ x. x.now) ds) (sym g.ensures ∙ c.if-not-lists_ok.false)).count).1
+
+pub returns-then-fault-ne0 : goal.returns-then-fault-ne0
+returns-then-fault-ne0 c =
+    let a = c.args in
+    let ts = map (λ x. x.now) a.types.now in
+    let ns = map (λ x. x.now) a.names.now in
+    let ds = map (λ x. x.now) a.contents.now in
+    let g = c.lists_ok in
+    let h : lists_ok ts ns ds ≡ true = sym g.ensures ∙ c.if-not-lists_ok.false in
+    let e = lists_of ts ns ds (lists-passed ts ns ds h).count in
+    let f = c.first_fault-fault.ensures (children ts ns ds) e.0 e.2 in
+    f ∙ sym (by-children ts ns ds a.room h (λ z. c.if-fault-ne0.true (f ∙ z)))
+
+pub space_fault-requires : goal.space_fault-requires
+space_fault-requires c =
+    let g = c.lists_ok in
+    sym g.ensures ∙ c.if-not-lists_ok.false
+
+pub returns : goal.returns
+returns c =
+    let a = c.args in
+    let ts = map (λ x. x.now) a.types.now in
+    let ns = map (λ x. x.now) a.names.now in
+    let ds = map (λ x. x.now) a.contents.now in
+    let g = c.lists_ok in
+    let h : lists_ok ts ns ds ≡ true = sym g.ensures ∙ c.if-not-lists_ok.false in
+    let e = lists_of ts ns ds (lists-passed ts ns ds h).count in
+    let f = c.first_fault-fault.ensures (children ts ns ds) e.0 e.2 in
+    c.space_fault.ensures ∙ sym (by-room ts ns ds a.room h (sym f ∙ c.if-fault-ne0.false))
