@@ -1,0 +1,6 @@
+-- `panel::Panel::new` meets its contract: sixteen free tiles.
+use borrow.Author.Rules.{rules}
+use Rattle.panel.proofs.Panel.new.Goals as goal
+
+pub returns : goal.returns
+returns c = simp c.free_tile-tile.ensures
