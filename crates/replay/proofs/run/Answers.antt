@@ -1,0 +1,26 @@
+use mathlib.Core.Path.{◌≡◌, sym, ◌∙◌}
+use lib.ListN.{length}
+use borrow.Author.Rules.{rules}
+use Rattle.panel.specs.Demand3.{panel_after}
+use Rattle.replay.specs.Script.{calls_in}
+use Rattle.replay.proofs.Laws.Script.{left_less}
+use Rattle.replay.proofs.Laws.Replay.{ran_on, run-start, run-next, run_end}
+use Rattle.replay.proofs.run.Goals as goal
+
+pub loop-left-init : goal.loop-left-init
+loop-left-init c = run-start c.args.script.now c.new-panel.ensures
+
+pub loop-left-smaller : goal.loop-left-smaller
+loop-left-smaller c =
+    left_less c.loop-left.left.now c.loop-left-test.true c.call_len.ensures c.rest-next.ensures
+
+pub loop-left-preserved : goal.loop-left-preserved
+loop-left-preserved c =
+    let l = c.loop-left in
+    l.invariant
+    ∙ run-next l.panel l.left.now c.loop-left-test.true c.perform-done.ensures c.call_len.ensures c.rest-next.ensures
+
+pub returns : goal.returns
+returns c =
+    let l = c.loop-left in
+    sym (l.invariant ∙ run_end l.panel l.left.now c.loop-left-test.false)
