@@ -1,0 +1,16 @@
+-- `exports::kudireppa_answer_at` meets its contract: four stores are one.
+use mathlib.Core.Path.{ap, ◌∙◌}
+use lib.Seq.{sets}
+use Rattle.replay.specs.declared.Answered.{Answered}
+use Rattle.exports.specs.Exports.{answered_bytes}
+use Rattle.exports.proofs.Laws.{answered-stored}
+use borrow.Author.Rules.{rules}
+use Rattle.exports.proofs.kudireppa_answer_at.Goals as goal
+
+pub returns : goal.returns
+returns c =
+    let answer = c.answer_at in
+    let out = c.args.out.now in
+    c.put_answered.ensures
+    ∙ answered-stored out answer.result
+    ∙ ap (λ (r : Answered). sets out 0 (answered_bytes r)) answer.ensures.equal

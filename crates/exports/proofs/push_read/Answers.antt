@@ -1,0 +1,17 @@
+-- `exports::push_read` meets its contract, answer by answer.
+use borrow.Author.Rules.{rules}
+use mathlib.Core.Path.{sym, ap, ◌∙◌}
+use Rattle.exports.specs.Exports.{push_read}
+use Rattle.exports.proofs.push_read.Goals as goal
+
+pub enum_told-1 : goal.enum_told-1
+enum_told-1 c = search rules
+
+pub returns-in-Nothing : goal.returns-in-Nothing
+returns-in-Nothing c = c.refusal.ensures ∙ ap push_read (sym c.in-Nothing.is)
+
+pub returns-in-Read : goal.returns-in-Read
+returns-in-Read c = ap push_read (sym c.in-Read.is)
+
+pub returns-in-Refused : goal.returns-in-Refused
+returns-in-Refused c = c.refusal-in-Refused.ensures ∙ ap push_read (sym c.in-Refused.is)

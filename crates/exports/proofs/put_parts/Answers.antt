@@ -1,0 +1,6 @@
+-- `exports::put_parts` meets its contract: six stores.
+use borrow.Author.Rules.{rules}
+use Rattle.exports.proofs.put_parts.Goals as goal
+
+pub returns : goal.returns
+returns c = cc

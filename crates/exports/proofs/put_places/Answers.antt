@@ -1,0 +1,6 @@
+-- `exports::put_places` meets its contract: nine stores.
+use borrow.Author.Rules.{rules}
+use Rattle.exports.proofs.put_places.Goals as goal
+
+pub returns : goal.returns
+returns c = cc

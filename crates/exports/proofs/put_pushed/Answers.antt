@@ -1,0 +1,25 @@
+-- `exports::put_pushed` meets its contract: seventeen stores are one.
+use Prim.Native.Nat.{ℕ}
+use mathlib.Core.Path.{ap, ◌∙◌}
+use mathlib.Core.List.{List}
+use lib.Seq.{sets}
+use borrow.Author.Rules.{rules}
+use Rattle.fields.specs.Numbers.{be_bytes}
+use Rattle.message.specs.declared.Answer.{Answer}
+use Rattle.exports.specs.Exports.{answer_bytes}
+use Rattle.exports.proofs.Laws.{pushed-stored}
+use Rattle.exports.proofs.put_pushed.Goals as goal
+
+pub returns : goal.returns
+returns c =
+    let a = c.args in
+    let read = c.push_read.ensures in
+    let answer = c.put_answer.ensures in
+    let code = c.push_code.ensures in
+    c.put64-3.ensures
+    ∙ ap (λ (o : List ℕ). sets o 128 (be_bytes 8 a.kept))
+    (c.put64-2.ensures
+    ∙ ap (λ (o : List ℕ). sets o 120 (be_bytes 8 a.taken))
+    (c.put64.ensures
+    ∙ (λ i. sets ((answer ∙ ap (λ (x : Answer). sets a.out.now 0 (answer_bytes x)) read) i) 112 (be_bytes 8 (code i)))))
+    ∙ pushed-stored a.out.now a.answer a.taken a.kept
