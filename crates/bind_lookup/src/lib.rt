@@ -1,6 +1,8 @@
 // Look-ups of a BIND's children, by index and by name, in one bundle and in two (rules 6.1 and 6.2). Each call checks a bundle once, to
 // its innermost children, and answers its fault before its own. A part that is handed back lies in the lent content; an empty child looks
 // like a refusal there, so ask the number first.
+#![tactic(auto)]
+
 mod child_walk;
 
 ghost use Rattle.std.specs.Prelude.{◌≡◌};

@@ -1,5 +1,7 @@
 // Contents written clean (rule 13.6): the rest of each CTYPE zeroed, at every level of a BIND. All else is written as it is given. The parts of
 // a BIND are written in order, straight into the lent buffer, so the time is linear in the content.
+#![tactic(auto)]
+
 ghost use Rattle.std.specs.Prelude.{◌+◌, ◌*◌, ◌≤◌, ◌≡◌, length};
 ghost use Rattle.std.proofs.lemmas.List.Edits.{sets};
 ghost use Rattle.bind_layout.specs.Children.{child_header_size};

@@ -1,4 +1,6 @@
 // Contents, judged by their type (rule 4.1): one dispatch, and BINDs to their innermost children (rule 4.14).
+#![tactic(auto)]
+
 ghost use Rattle.std.specs.Prelude.{◌≡◌};
 ghost use Rattle.content.specs.Kinds.{kind_of};
 ghost use Rattle.content.specs.ContentCheck.{content_fault, bind_fault, content_checked, bind_checked, deepest, nested_levels};

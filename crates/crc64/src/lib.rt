@@ -1,4 +1,6 @@
 // CRC-64 as ECMA-182 defines it (rule 2.3), computed bit by bit.
+#![tactic(auto)]
+
 ghost use Rattle.std.specs.Prelude.{◌≡◌};
 ghost use Rattle.crc64.specs.Crc.{bit_step, byte_step, crc_of};
 

@@ -1,6 +1,8 @@
 // Fields of a byte layout, read from lent slices and written into lent buffers. Lent means passed by reference: the memory stays the
 // caller's. Every function answers for every slice, place and number: a read past the end leaves out what is not there, and a write past
 // the end leaves out what does not fit.
+#![tactic(auto)]
+
 pub mod number;
 pub mod slice;
 pub mod store;

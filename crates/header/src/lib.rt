@@ -1,4 +1,6 @@
 // The header of a message (rule 3.1): 58 bytes, judged, read and written by themselves; and the two parts of a time stamp.
+#![tactic(auto)]
+
 pub mod time_stamp;
 
 ghost use Rattle.std.specs.Prelude.{cond, ◌≡◌};

@@ -1,5 +1,7 @@
 // IMAGE contents (rules 4.5 to 4.8): the check, the header as a struct of numbers, the pixels as a part of the content, and the writer.
 // A float is a u32 word, the number that its bits spell (rule 4.4).
+#![tactic(auto)]
+
 ghost use Rattle.std.specs.Prelude.{◌≡◌, ◌+◌, ◌*◌, ◌^◌, ◌≤◌, ◌<◌, [], ◌∷◌, take, drop, replicate};
 ghost use Rattle.fields.specs.Layout.{number_fields, stores};
 ghost use Rattle.fields.specs.Checks.{or_else};

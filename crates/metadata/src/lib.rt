@@ -1,6 +1,8 @@
 // Metadata sections (rules 3.8 to 3.11): the check, and the look-up of a value by its key. A look-up checks the section once, and answers
 // its fault before its own. A section of 0 bytes is no section: it is accepted and has no key. A value that is handed back lies in the
 // lent section; an empty value looks like a refusal there, so ask the number first.
+#![tactic(auto)]
+
 mod entry_walk;
 mod section_parts;
 

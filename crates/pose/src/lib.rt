@@ -1,4 +1,6 @@
 // TRANSFORM and POSITION contents (rules 4.2 to 4.4). A float is a u32 word, the number that its bits spell; nothing is computed with it.
+#![tactic(auto)]
+
 ghost use Rattle.std.specs.Prelude.{◌≡◌, ◌++◌, ◌*◌, ◌≤◌, length};
 ghost use Rattle.std.proofs.lemmas.List.Edits.{sets};
 ghost use Rattle.fields.specs.Checks.{or_else};

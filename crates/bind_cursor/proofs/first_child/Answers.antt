@@ -8,9 +8,6 @@ use Rattle.bind_cursor.specs.Cursor.{first_of}
 use borrow.Author.Rules.{rules}
 use Rattle.bind_cursor.proofs.first_child.Goals as goal
 
-pub bind_check-answer-requires : goal.bind_check-answer-requires
-bind_check-answer-requires c = search rules
-
 pub returns-then-answer-ne0 : goal.returns-then-answer-ne0
 unfolding first_of
 returns-then-answer-ne0 c =

@@ -16,9 +16,6 @@ pub returns-then-cursor-eq0 : goal.returns-then-cursor-eq0
 unfolding next_of
 returns-then-cursor-eq0 c = sym (simp (eq-eqb _ 0 c.if-cursor-ne0.false, eq-eqb _ 0 c.if-cursor-eq0.true))
 
-pub after_block-requires : goal.after_block-requires
-after_block-requires c = search rules
-
 pub returns : goal.returns
 unfolding next_of
 returns c =

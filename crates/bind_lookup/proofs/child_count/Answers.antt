@@ -2,7 +2,6 @@
 use mathlib.Core.Path.{ap, sym, ◌∙◌}
 use borrow.Author.Tests.{eq-eqb, ne_eqb}
 use Rattle.bind_lookup.specs.ChildLookup.{count_of}
-use borrow.Author.Rules.{rules}
 use Rattle.fields.specs.declared.Checked.{Checked}
 use Rattle.content.specs.ContentCheck.{deepest}
 use Rattle.content.proofs.Laws.ChildrenWalk.{bind-fault}

@@ -1,5 +1,4 @@
 -- `bind_lookup::child_place` meets its contract.
-use borrow.Author.Rules.{rules}
 use Rattle.content.specs.ContentCheck.{deepest}
 use Rattle.content.proofs.Laws.ChildrenWalk.{bind-fault}
 use Rattle.bind_lookup.proofs.child_place.Goals as goal

@@ -3,7 +3,6 @@ use mathlib.Core.Path.{sym, ap, ◌∙◌}
 use borrow.Author.Tests.{eq-eqb, ne_eqb}
 use Rattle.bind_layout.specs.BindLayout.{type_of}
 use Rattle.bind_lookup.specs.ChildLookup.{type_at}
-use borrow.Author.Rules.{rules}
 use Rattle.bind_lookup.proofs.child_type.Goals as goal
 
 pub returns-then-child_fault-ne0 : goal.returns-then-child_fault-ne0

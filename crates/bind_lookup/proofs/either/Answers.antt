@@ -2,7 +2,6 @@
 use mathlib.Core.Path.{ap, ◌∙◌}
 use Rattle.bind_lookup.specs.declared.EitherPlace.{EitherPlace}
 use Rattle.bind_lookup.specs.EitherLookup.{either_part}
-use borrow.Author.Rules.{rules}
 use Rattle.bind_lookup.proofs.either.Goals as goal
 
 pub returns : goal.returns

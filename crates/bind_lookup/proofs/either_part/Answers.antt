@@ -5,11 +5,7 @@ use lib.Seq.{take-nil, drop-nil}
 use Rattle.fields.specs.Bytes.{part}
 use Rattle.bind_lookup.specs.declared.Source.{Source}
 use Rattle.bind_lookup.specs.EitherLookup.{bundle_of}
-use borrow.Author.Rules.{rules}
 use Rattle.bind_lookup.proofs.either_part.Goals as goal
-
-pub enum_told-1 : goal.enum_told-1
-enum_told-1 c = search rules
 
 pub returns-in-Site : goal.returns-in-Site
 returns-in-Site c =

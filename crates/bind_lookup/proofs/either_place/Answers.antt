@@ -7,7 +7,6 @@ use borrow.Author.Tests.{lt-ltb, le-ltb}
 use Rattle.content.specs.ContentCheck.{deepest}
 use Rattle.content.proofs.Laws.ChildrenWalk.{bind-fault}
 use Rattle.bind_lookup.specs.EitherLookup.{either_place}
-use borrow.Author.Rules.{rules}
 use Rattle.bind_lookup.proofs.either_place.Goals as goal
 
 -- the test of the index, as the code makes it

@@ -1,7 +1,6 @@
 -- `bind_lookup::either_source` meets its contract.
 use mathlib.Core.Path.{ap, ◌∙◌}
 use Rattle.bind_lookup.specs.declared.EitherPlace.{EitherPlace}
-use borrow.Author.Rules.{rules}
 use Rattle.bind_lookup.proofs.either_source.Goals as goal
 
 pub returns : goal.returns

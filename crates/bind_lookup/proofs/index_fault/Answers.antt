@@ -4,7 +4,6 @@ use borrow.Author.Tests.{lt-ltb, le-ltb}
 use Rattle.fields.proofs.Laws.Checks.{else-second}
 use Rattle.bind_lookup.specs.ChildLookup.{index_fault}
 use Rattle.bind_lookup.proofs.Laws.Lookup.{number-fault}
-use borrow.Author.Rules.{rules}
 use Rattle.bind_lookup.proofs.index_fault.Goals as goal
 
 pub returns-then-fault-ne0 : goal.returns-then-fault-ne0

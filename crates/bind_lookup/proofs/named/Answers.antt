@@ -2,7 +2,6 @@
 use mathlib.Core.Path.{ap, ◌∙◌}
 use Rattle.bind_lookup.specs.declared.Place.{Place}
 use Rattle.bind_lookup.specs.ChildLookup.{part_at}
-use borrow.Author.Rules.{rules}
 use Rattle.bind_lookup.proofs.named.Goals as goal
 
 pub returns : goal.returns

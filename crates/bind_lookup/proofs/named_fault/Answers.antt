@@ -1,7 +1,6 @@
 -- `bind_lookup::named_fault` meets its contract.
 use mathlib.Core.Path.{ap}
 use Rattle.bind_lookup.specs.declared.Place.{Place}
-use borrow.Author.Rules.{rules}
 use Rattle.bind_lookup.proofs.named_fault.Goals as goal
 
 pub returns : goal.returns

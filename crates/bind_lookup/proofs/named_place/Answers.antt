@@ -1,5 +1,4 @@
 -- `bind_lookup::named_place` meets its contract.
-use borrow.Author.Rules.{rules}
 use Rattle.content.specs.ContentCheck.{deepest}
 use Rattle.content.proofs.Laws.ChildrenWalk.{bind-fault}
 use Rattle.bind_lookup.proofs.named_place.Goals as goal

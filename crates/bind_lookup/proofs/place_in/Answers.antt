@@ -3,7 +3,6 @@ use mathlib.Core.Path.{sym, ◌∙◌}
 use borrow.Author.Tests.{eq-eqb, ne_eqb}
 use Rattle.bind_lookup.specs.ChildLookup.{placed}
 use Rattle.bind_lookup.proofs.Laws.Lookup.{left-inside}
-use borrow.Author.Rules.{rules}
 use Rattle.bind_lookup.proofs.place_in.Goals as goal
 
 pub returns-then-number-ne0 : goal.returns-then-number-ne0

@@ -1,17 +1,13 @@
-use Prim.Native.Nat.{ℕ, ◌+◌, ◌-◌, ◌<◌, ◌≤◌}
+use Prim.Native.Nat.{◌+◌, ◌-◌, ◌≤◌}
 use mathlib.Core.Path.{◌≡◌, refl, sym, ap, ◌∙◌}
-use mathlib.Core.Bool.{true}
 use mathlib.Core.List.{[]}
 use native.Mathlib.Omega.{arith}
 use lib.ListN.{length}
 use lib.Seq.{sets}
-use borrow.Author.Rules.{rules}
 use Rattle.fields.specs.declared.Checked.{Checked}
-use Rattle.fields.specs.Bytes.{same}
-use Rattle.bind_layout.specs.BindLayout.{data_ok, layout_fault, headers}
+use Rattle.bind_layout.specs.BindLayout.{data_ok, layout_fault}
 use Rattle.bind_layout.proofs.Laws.Read.{data-shorter, layout-data}
 use Rattle.content.proofs.Laws.ChildrenWalk.{layout-number}
-use Rattle.cleaning.specs.CleanBytes.{clean_blocks, clean_bind}
 use Rattle.cleaning.proofs.Laws.CleaningWalk.{bind-deep, bind-unlaid, bind-start, datas-end, datas-walk, left-ok, left-shorter, child_fits, as-bind, as-other}
 use Rattle.cleaning.proofs.+put.Goals as goal
 

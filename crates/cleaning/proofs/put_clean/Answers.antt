@@ -4,7 +4,6 @@ use mathlib.Core.Path.{sym, ap, ◌∙◌}
 use lib.Seq.{sets}
 use Rattle.cleaning.specs.CleanBytes.{clean_bytes}
 use native.Mathlib.Omega.{arith}
-use borrow.Author.Rules.{rules}
 use Rattle.cleaning.proofs.Laws.CleaningWalk.{put-fits, put-short}
 use Rattle.cleaning.proofs.put_clean.Goals as goal
 

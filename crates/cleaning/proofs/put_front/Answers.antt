@@ -2,7 +2,6 @@
 use mathlib.Core.Path.{◌≡◌, ap, ◌∙◌}
 use native.Mathlib.Omega.{arith}
 use lib.ListN.{length, length-drop}
-use borrow.Author.Rules.{rules}
 use Rattle.fields.specs.Numbers.{be_at}
 use Rattle.bind_layout.specs.BindLayout.{child_count}
 use Rattle.bind_layout.proofs.Laws.Read.{layout-fits}

@@ -1,11 +1,7 @@
-use Prim.Native.Nat.{◌+◌, ◌*◌, ◌-◌, ◌≤◌}
-use mathlib.Core.Path.{◌≡◌, refl, ap, sym, ◌∙◌}
+use mathlib.Core.Path.{refl, ap, sym, ◌∙◌}
 use native.Mathlib.Omega.{arith}
 use lib.ListN.{length, length-drop}
 use lib.Seq.{sets}
-use borrow.Author.Rules.{rules}
-use Rattle.fields.specs.Bytes.{part}
-use Rattle.cleaning.specs.CleanBytes.{clean_headers}
 use Rattle.cleaning.proofs.Laws.CleaningWalk.{headers-end, headers-walk}
 use Rattle.cleaning.proofs.put_headers.Goals as goal
 

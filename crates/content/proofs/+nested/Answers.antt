@@ -1,7 +1,7 @@
 use mathlib.Core.Path.{◌≡◌, sym, ap, ap₂, ◌∙◌}
 use mathlib.Core.Bool.{Bool, true, ◌&&◌}
 use mathlib.Core.List.{List}
-use Prim.Native.Nat.{ℕ, ◌+◌, ◌-◌, ◌%◌, ◌<◌, ◌≤◌}
+use Prim.Native.Nat.{ℕ, ◌-◌, ◌%◌}
 use native.Mathlib.Omega.{arith}
 use lib.ListN.{length, take, drop, length-take, length-drop}
 use Rattle.bind_layout.specs.BindLayout.{headers, data_of, type_of, size_of, after_block}
@@ -12,9 +12,7 @@ use Rattle.bind_layout.proofs.Laws.Read.{data-shorter}
 use Rattle.content.specs.declared.Kind.TheVariants.{Transform, Position, Image, Other}
 use Rattle.content.specs.ContentCheck.{children_fault, bind_fault, children_clean, bind_clean, content_checked}
 use Rattle.content.proofs.Laws.ChildrenWalk.{kind-checked, kind-bound, bind-none-left, bind-walk, children-end, children-stop, children-next, bind-refused, bind-passed, bind-mark, layout-number, layout-stop, marks-end, marks-next, child-fault, child-stop}
-use borrow.Author.Rules.{rules}
 use Rattle.content.proofs.+nested.Goals as goal
-
 
 -- the answer for the child in front, as the walk names it
 child-answer : (l : ℕ) (h d : List ℕ) {r : Checked} {n : ℕ} {t x : List ℕ} → r ≡ content_checked l t x → t ≡ type_of h → x ≡ take n d → n ≡ size_of h

@@ -1,6 +1,5 @@
 -- `content::bind_check` meets its contract: a content of type BIND is judged as a BIND is.
 use mathlib.Core.Path.{◌∙◌}
-use borrow.Author.Rules.{rules}
 use Rattle.content.proofs.Laws.ChildrenWalk.{kind-bound}
 use Rattle.content.proofs.Laws.Kinds.{kind-bind}
 use Rattle.content.proofs.bind_check.Goals as goal

@@ -1,6 +1,5 @@
 -- `content::bind_fault` meets its contract.
 use mathlib.Core.Path.{ap, ◌∙◌}
-use borrow.Author.Rules.{rules}
 use Rattle.fields.specs.declared.Checked.{Checked}
 use Rattle.content.proofs.Laws.ChildrenWalk.{bind-fault}
 use Rattle.content.proofs.bind_fault.Goals as goal

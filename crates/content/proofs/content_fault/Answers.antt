@@ -1,6 +1,5 @@
 -- `content::content_fault` meets its contract.
 use mathlib.Core.Path.{ap, ◌∙◌}
-use borrow.Author.Rules.{rules}
 use Rattle.fields.specs.declared.Checked.{Checked}
 use Rattle.content.proofs.Laws.ChildrenWalk.{content-fault}
 use Rattle.content.proofs.content_fault.Goals as goal

@@ -1,6 +1,5 @@
 -- `content::kind_of` meets its contract: one test for each of the four texts.
 use mathlib.Core.Path.{sym, ◌∙◌}
-use borrow.Author.Rules.{rules}
 use Rattle.content.specs.Kinds.{kind_of}
 use Rattle.content.proofs.kind_of.Goals as goal
 

@@ -1,8 +1,6 @@
 use mathlib.Core.Path.{◌≡◌, refl, sym, ap, ◌∙◌}
-use Prim.Native.Nat.{ℕ, ◌-◌, ◌≤◌, ◌<◌}
+use Prim.Native.Nat.{ℕ, ◌<◌}
 use native.Mathlib.Omega.{arith}
-use lib.ListN.{take}
-use borrow.Author.Rules.{rules}
 use Rattle.crc64.specs.Crc.{bit_step, run, bit_at, bits_of}
 use Rattle.crc64.proofs.Laws.{byte-take-suc, byte-take-all}
 use Rattle.crc64.proofs.byte_step.Goals as goal

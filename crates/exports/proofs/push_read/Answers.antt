@@ -4,9 +4,6 @@ use mathlib.Core.Path.{sym, ap, ◌∙◌}
 use Rattle.exports.specs.Exports.{push_read}
 use Rattle.exports.proofs.push_read.Goals as goal
 
-pub enum_told-1 : goal.enum_told-1
-enum_told-1 c = search rules
-
 pub returns-in-Nothing : goal.returns-in-Nothing
 returns-in-Nothing c = c.refusal.ensures ∙ ap push_read (sym c.in-Nothing.is)
 

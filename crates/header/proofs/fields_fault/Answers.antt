@@ -2,8 +2,6 @@
 use Prim.Native.Nat.{ℕ}
 use mathlib.Core.Path.{sym, ap, ◌∙◌}
 use mathlib.Core.Bool.{Bool, cond}
-use borrow.Author.Rules.{rules}
-use borrow.Author.Tests.{not-true, not-false}
 use Rattle.fields.specs.Checks.{or_else}
 use Rattle.header.specs.HeaderReader.{limit_fault}
 use Rattle.header.proofs.fields_fault.Goals as goal

@@ -2,8 +2,6 @@
 use mathlib.Core.Bool.{false, false≢true}
 use mathlib.Core.Path.{◌≡◌, sym, ◌∙◌}
 use native.Mathlib.Omega.{arith}
-use borrow.Author.Rules.{rules}
-use borrow.Author.Tests.{not-true, not-false}
 use Rattle.fields.proofs.Laws.Text.{is-text, text-is}
 use Rattle.fields.specs.Text.{is_text}
 use Rattle.header.proofs.Laws.Faults.{names-pass, names-broken}

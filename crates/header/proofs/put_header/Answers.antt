@@ -1,5 +1,4 @@
 -- `header::put_header` meets its contract: six stores.
-use borrow.Author.Rules.{rules}
 use Rattle.header.proofs.put_header.Goals as goal
 
 pub returns : goal.returns

@@ -2,7 +2,6 @@
 use mathlib.Core.Bool.{◌&&◌}
 use mathlib.Core.Path.{◌≡◌, ap, ap₂, sym, ◌∙◌}
 use native.Mathlib.Omega.{arith}
-use borrow.Author.Rules.{rules}
 use Rattle.fields.specs.Received.{field_read}
 use Rattle.fields.specs.declared.text.TextField.{TextField}
 use Rattle.header.proofs.Laws.Faults.{fault-short, refused-with, read-fault, read-handed}

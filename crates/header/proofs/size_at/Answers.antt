@@ -1,5 +1,4 @@
 -- `header::size_at` meets its contract: the number at 42.
-use borrow.Author.Rules.{rules}
 use Rattle.header.specs.HeaderReader.{header_of}
 use Rattle.header.proofs.size_at.Goals as goal
 

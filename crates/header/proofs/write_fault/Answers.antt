@@ -1,6 +1,5 @@
 -- `header::write_fault` meets its contract: the law of each check.
 use mathlib.Core.Path.{sym, ◌∙◌}
-use borrow.Author.Rules.{rules}
 use Rattle.fields.proofs.Laws.Checks.{else-first, else-second}
 use Rattle.header.proofs.write_fault.Goals as goal
 

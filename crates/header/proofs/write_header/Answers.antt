@@ -1,7 +1,6 @@
 -- `header::write_header` meets its contract: the fault, or the stores of the fields.
 use mathlib.Core.Path.{sym, ◌∙◌}
 use lib.ListN.{length}
-use borrow.Author.Rules.{rules}
 use Rattle.fields.proofs.Laws.Writers.{refuses, stored}
 use Rattle.header.specs.Header.{encode_header}
 use Rattle.header.specs.HeaderWriter.{given, given_fault}

@@ -1,5 +1,4 @@
 -- `image::direction_ok` meets its contract: the entries of the three arrays.
-use borrow.Author.Rules.{rules}
 use Rattle.image.specs.ImageReader.{direction_ok}
 use Rattle.image.proofs.direction_ok.Goals as goal
 

@@ -1,7 +1,5 @@
 -- `image::directions_ok` meets its contract: the three tests in turn.
 use mathlib.Core.Path.{sym, ◌∙◌}
-use borrow.Author.Tests.{not-true, not-false}
-use borrow.Author.Rules.{rules}
 use Rattle.image.specs.ImageReader.{directions_ok}
 use Rattle.image.proofs.Rule.{and_no, and_yes}
 use Rattle.image.proofs.directions_ok.Goals as goal

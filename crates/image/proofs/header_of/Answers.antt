@@ -1,5 +1,4 @@
 -- `image::header_of` meets its contract: each field at its place.
-use borrow.Author.Rules.{rules}
 use Rattle.image.specs.ImageReader.{header_of}
 use Rattle.image.proofs.header_of.Goals as goal
 

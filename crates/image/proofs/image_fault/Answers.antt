@@ -1,7 +1,6 @@
 -- `image::image_fault` meets its contract: too short, or the rule of what was read.
 use mathlib.Core.Path.{sym, ◌∙◌}
 use borrow.Author.Tests.{le-leb, lt-leb}
-use borrow.Author.Rules.{rules}
 use Rattle.fields.proofs.Laws.Tests.{cond_yes, cond_no}
 use Rattle.image.specs.ImageReader.{image_fault}
 use Rattle.image.proofs.Rule.{rule-same}

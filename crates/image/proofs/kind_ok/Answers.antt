@@ -1,8 +1,7 @@
 -- `image::kind_ok` meets its contract: the four tests in turn.
 use mathlib.Core.Path.{sym, ap, ◌∙◌}
 use lib.Dec.{leb}
-use borrow.Author.Tests.{le-leb, lt-leb, not-true, not-false}
-use borrow.Author.Rules.{rules}
+use borrow.Author.Tests.{le-leb, lt-leb}
 use Rattle.image.specs.ImageReader.{kind_ok}
 use Rattle.image.proofs.Rule.{and_no, and_yes}
 use Rattle.image.proofs.kind_ok.Goals as goal

@@ -1,6 +1,5 @@
 -- `image::pixel_bytes` meets its contract: the product for the scalar's size.
 use mathlib.Core.Path.{◌∙◌}
-use borrow.Author.Rules.{rules}
 use Rattle.image.specs.ImageReader.{pixel_bytes}
 use Rattle.image.proofs.Rule.{product-same}
 use Rattle.image.proofs.pixel_bytes.Goals as goal

@@ -1,6 +1,5 @@
 -- `image::pixels` meets its contract: the law of each case.
 use mathlib.Core.Path.{sym, ◌∙◌}
-use borrow.Author.Rules.{rules}
 use Rattle.image.proofs.Laws.{pixels-accepted, pixels-refused}
 use Rattle.image.proofs.pixels.Goals as goal
 

@@ -26,6 +26,6 @@ overflow_mul-result-2 c =
 
 pub returns : goal.returns
 returns c = record {
-      value = refl;
-      bound = pixels-lt c.ranges.components.fits c.requires c.ranges.i.fits c.ranges.j.fits c.ranges.k.fits;
-    }
+  value = refl;
+  bound = pixels-lt c.ranges.components.fits c.requires c.ranges.i.fits c.ranges.j.fits c.ranges.k.fits;
+}

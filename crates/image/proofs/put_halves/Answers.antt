@@ -1,5 +1,4 @@
 -- `image::put_halves` meets its contract: three stores.
-use borrow.Author.Rules.{rules}
 use Rattle.image.proofs.put_halves.Goals as goal
 
 pub returns : goal.returns

@@ -1,5 +1,4 @@
 -- `image::put_header` meets its contract: the stores of its parts.
-use borrow.Author.Rules.{rules}
 use Rattle.image.proofs.put_header.Goals as goal
 
 pub returns : goal.returns

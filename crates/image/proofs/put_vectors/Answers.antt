@@ -1,5 +1,4 @@
 -- `image::put_vectors` meets its contract: twelve stores.
-use borrow.Author.Rules.{rules}
 use Rattle.image.proofs.put_vectors.Goals as goal
 
 pub returns : goal.returns

@@ -1,5 +1,4 @@
 -- `image::put_words` meets its contract: three stores.
-use borrow.Author.Rules.{rules}
 use Rattle.image.proofs.put_words.Goals as goal
 
 pub returns : goal.returns

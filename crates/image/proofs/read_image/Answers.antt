@@ -1,7 +1,6 @@
 -- `image::read_image` meets its contract: the law of each case.
 use Prim.Native.Nat.{ℕ}
 use mathlib.Core.Path.{ap₂, sym, ◌∙◌}
-use borrow.Author.Rules.{rules}
 use Rattle.image.specs.declared.ImageHeader.{ImageHeader}
 use Rattle.image.specs.declared.ImageRead.{ImageRead}
 use Rattle.image.proofs.Laws.{read_kept, read-refused}

@@ -3,8 +3,7 @@ use Prim.Native.Nat.{ℕ, ◌^◌, ◌<◌}
 use mathlib.Core.Path.{◌≡◌, sym, ap, ◌∙◌}
 use native.Mathlib.Omega.{arith}
 use lib.Dec.{eqb}
-use borrow.Author.Tests.{eq-eqb, ne_eqb, not-true, not-false}
-use borrow.Author.Rules.{rules}
+use borrow.Author.Tests.{eq-eqb, ne_eqb}
 use Rattle.image.specs.ImageReader.{header_ok}
 use Rattle.image.proofs.Rule.{and_no, and_yes, rule-broken, rule-kept}
 use Rattle.image.proofs.rule_fault.Goals as goal

@@ -2,7 +2,6 @@
 use mathlib.Core.Path.{refl, sym}
 use native.Mathlib.Omega.{arith}
 use lib.ListN.{get_or-eq_default}
-use borrow.Author.Rules.{rules}
 use Rattle.image.specs.ImageReader.{scalar_sizes, scalar_size}
 use Rattle.image.proofs.Rule.{scalar-le}
 use Rattle.image.proofs.scalar_size.Goals as goal
@@ -10,13 +9,13 @@ use Rattle.image.proofs.scalar_size.Goals as goal
 pub returns-then-s-lt12 : goal.returns-then-s-lt12
 unfolding scalar_size
 returns-then-s-lt12 c = record {
-      value = refl;
-      bound = scalar-le c.args.s;
-    }
+  value = refl;
+  bound = scalar-le c.args.s;
+}
 
 pub returns : goal.returns
 unfolding scalar_size
 returns c = record {
-      value = sym (get_or-eq_default scalar_sizes 0 c.if-s-lt12.false);
-      bound = omega arith;
-    }
+  value = sym (get_or-eq_default scalar_sizes 0 c.if-s-lt12.false);
+  bound = omega arith;
+}

@@ -1,7 +1,6 @@
 -- `image::within` meets its contract: the three tests in turn.
 use mathlib.Core.Path.{sym, ◌∙◌}
 use borrow.Author.Tests.{le-leb, lt-leb}
-use borrow.Author.Rules.{rules}
 use Rattle.image.specs.ImageReader.{within}
 use Rattle.image.proofs.Rule.{and_no, and_yes}
 use Rattle.image.proofs.within.Goals as goal

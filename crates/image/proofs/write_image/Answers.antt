@@ -4,7 +4,6 @@ use mathlib.Core.List.{List}
 use mathlib.Core.Path.{ap, sym, ◌∙◌}
 use lib.ListN.{length}
 use lib.Seq.{sets}
-use borrow.Author.Rules.{rules}
 use Rattle.fields.proofs.Laws.Writers.{refuses, stored}
 use Rattle.image.specs.Image.{image_of_parts, encode_image}
 use Rattle.image.specs.ImageReader.{rule_fault}

@@ -2,7 +2,6 @@
 use mathlib.Core.Path.{sym}
 use native.Mathlib.Omega.{arith}
 use borrow.Author.Tests.{eq-eqb, ne_eqb}
-use borrow.Author.Rules.{rules}
 use Rattle.fields.proofs.Laws.Numbers.{be_at-lt}
 use Rattle.metadata.specs.MetadataCheck.{index_size_in}
 use Rattle.metadata.proofs.index_size.Goals as goal

@@ -2,7 +2,6 @@
 use mathlib.Core.Path.{sym, ◌∙◌}
 use borrow.Author.Tests.{eq-eqb, ne_eqb}
 use Rattle.metadata.specs.MetadataCheck.{metadata_fault}
-use borrow.Author.Rules.{rules}
 use Rattle.metadata.proofs.metadata_fault.Goals as goal
 
 pub returns-then-section-eq0 : goal.returns-then-section-eq0

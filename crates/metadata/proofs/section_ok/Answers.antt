@@ -4,7 +4,6 @@ use native.Mathlib.Omega.{arith}
 use borrow.Author.Tests.{le-leb, lt-leb}
 use Rattle.metadata.specs.MetadataCheck.{section_ok}
 use Rattle.fields.proofs.Laws.Numbers.{be_at-lt}
-use borrow.Author.Rules.{rules}
 use Rattle.metadata.proofs.section_ok.Goals as goal
 
 pub returns-then-section-lt2 : goal.returns-then-section-lt2

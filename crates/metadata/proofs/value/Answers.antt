@@ -2,7 +2,6 @@
 use mathlib.Core.Path.{ap, ◌∙◌}
 use Rattle.fields.specs.Bytes.{part}
 use Rattle.metadata.specs.declared.ValuePlace.{ValuePlace}
-use borrow.Author.Rules.{rules}
 use Rattle.metadata.proofs.value.Goals as goal
 
 pub returns : goal.returns

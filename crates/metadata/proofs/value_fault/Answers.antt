@@ -1,7 +1,6 @@
 -- `metadata::value_fault` meets its contract.
 use mathlib.Core.Path.{ap}
 use Rattle.metadata.specs.declared.ValuePlace.{ValuePlace}
-use borrow.Author.Rules.{rules}
 use Rattle.metadata.proofs.value_fault.Goals as goal
 
 pub returns : goal.returns

@@ -2,7 +2,6 @@
 use mathlib.Core.Path.{sym}
 use borrow.Author.Tests.{eq-eqb, ne_eqb}
 use Rattle.metadata.specs.ValueLookup.{value_place}
-use borrow.Author.Rules.{rules}
 use Rattle.metadata.proofs.value_place.Goals as goal
 
 pub returns-then-fault-ne0 : goal.returns-then-fault-ne0

@@ -1,10 +1,9 @@
-use Prim.Native.Nat.{ℕ, ◌≤◌, ◌-◌, ◌*◌}
-use mathlib.Core.Path.{◌≡◌, refl, ap, ◌∙◌}
+use Prim.Native.Nat.{ℕ, ◌*◌}
+use mathlib.Core.Path.{refl, ap, ◌∙◌}
 use mathlib.Core.List.{List}
 use native.Mathlib.Omega.{arith}
 use lib.ListN.{length, take, get_or}
 use lib.Seq.{sets, length-sets, take_all}
-use borrow.Author.Rules.{rules}
 use Rattle.fields.specs.Lists.{flat}
 use Rattle.fields.specs.Numbers.{be_bytes}
 use Rattle.pose.specs.Words.{word_bytes}

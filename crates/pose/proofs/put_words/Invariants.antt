@@ -1,15 +1,9 @@
 -- `pose::put_words` meets its contract. The loop's invariant: the first `i` words are written.
-use Prim.Native.Nat.{ℕ, ◌≤◌, ◌-◌, ◌*◌}
-use mathlib.Core.Path.{◌≡◌, refl, ap, ◌∙◌}
-use mathlib.Core.List.{List}
-use native.Mathlib.Omega.{arith}
-use lib.ListN.{length, take, get_or}
-use lib.Seq.{sets, length-sets, take_all}
-use borrow.Author.Rules.{rules}
-use Rattle.fields.specs.Lists.{flat}
-use Rattle.fields.specs.Numbers.{be_bytes}
+use Prim.Native.Nat.{◌≤◌, ◌-◌}
+use mathlib.Core.Path.{◌≡◌}
+use lib.ListN.{length, take}
+use lib.Seq.{sets}
 use Rattle.pose.specs.Words.{word_bytes}
-use Rattle.pose.proofs.Laws.{put_word}
 use Rattle.pose.proofs.put_words.Given as goal
 
 abbrev pub invariant-loop-i : goal.invariant-loop-i

@@ -1,6 +1,5 @@
 -- `pose::read_position` meets its contract: the law of an accepted content and that of a refused one.
 use mathlib.Core.Path.{◌≡◌, sym, ap, ◌∙◌}
-use borrow.Author.Rules.{rules}
 use Rattle.pose.specs.PositionReader.{some_position, no_position, position_of}
 use Rattle.pose.proofs.Laws.{position-read, position-refused}
 use Rattle.pose.proofs.read_position.Goals as goal

@@ -1,7 +1,6 @@
 -- `pose::read_transform` meets its contract: the law of an accepted content and that of a refused one.
 use Prim.Native.Nat.{ℕ}
 use mathlib.Core.Path.{◌≡◌, sym, ap, ◌∙◌}
-use borrow.Author.Rules.{rules}
 use Rattle.pose.specs.declared.TransformRead.{TransformRead}
 use Rattle.pose.specs.TransformReader.{no_transform, transform_at}
 use Rattle.pose.proofs.Laws.{transform-read, transform-refused}

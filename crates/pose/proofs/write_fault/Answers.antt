@@ -2,7 +2,6 @@
 use Prim.Native.Nat.{◌*◌}
 use mathlib.Core.Path.{◌≡◌, sym, ◌∙◌}
 use native.Mathlib.Omega.{arith}
-use borrow.Author.Rules.{rules}
 use Rattle.fields.specs.Answer.{room_fault}
 use Rattle.fields.proofs.Laws.Checks.{else-first, else-second}
 use Rattle.pose.specs.PositionReader.{count_fault}

@@ -3,7 +3,6 @@ use Prim.Native.Nat.{◌*◌}
 use mathlib.Core.Path.{sym, ◌∙◌}
 use native.Mathlib.Omega.{arith}
 use lib.ListN.{length}
-use borrow.Author.Rules.{rules}
 use Rattle.fields.specs.Answer.{room_fault}
 use Rattle.fields.proofs.Laws.Checks.{zero-else}
 use Rattle.fields.proofs.Laws.Writers.{refuses, stored}

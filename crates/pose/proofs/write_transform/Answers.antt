@@ -5,7 +5,6 @@ use mathlib.Core.List.{List}
 use native.Mathlib.Omega.{arith}
 use lib.ListN.{length}
 use lib.Seq.{sets}
-use borrow.Author.Rules.{rules}
 use Rattle.fields.specs.Answer.{room_fault}
 use Rattle.fields.proofs.Laws.Writers.{refuses, stored}
 use Rattle.pose.specs.Words.{word_bytes}

@@ -3,9 +3,6 @@ use borrow.Author.Rules.{rules}
 use Rattle.replay.proofs.Laws.Replay.{look-handed-on}
 use Rattle.replay.proofs.after_look.Goals as goal
 
-pub enum_told-1 : goal.enum_told-1
-enum_told-1 c = search rules
-
 pub returns-in-Empty : goal.returns-in-Empty
 returns-in-Empty c = look-handed-on c.args.res c.in-Empty.is
 

@@ -1,6 +1,5 @@
 -- `bind_layout::bind_parts::after_headers` meets its contract: the count is that of two bytes, so the sum fits.
 use native.Mathlib.Omega.{arith}
-use borrow.Author.Rules.{rules}
 use Rattle.fields.proofs.Laws.Numbers.{be_at-lt}
 use Rattle.bind_layout.proofs.bind_parts.after_headers.Goals as goal
 

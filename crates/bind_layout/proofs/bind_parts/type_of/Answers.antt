@@ -1,5 +1,4 @@
 -- `bind_layout::bind_parts::type_of` meets its contract.
-use borrow.Author.Rules.{rules}
 use Rattle.bind_layout.proofs.bind_parts.type_of.Goals as goal
 
 pub returns : goal.returns

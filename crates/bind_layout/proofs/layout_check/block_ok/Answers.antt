@@ -9,12 +9,6 @@ pub returns-then-blocks-n : goal.returns-then-blocks-n
 unfolding block_ok
 returns-then-blocks-n c = sym (simp (lt-leb _ _ c.if-blocks-n.true))
 
-pub rest-requires : goal.rest-requires
-rest-requires c = search rules
-
-pub pad_ok-requires : goal.pad_ok-requires
-pad_ok-requires c = search rules
-
 pub returns : goal.returns
 unfolding block_ok
 returns c = sym (simp (le-leb _ _ c.if-blocks-n.false, c.pad_ok.ensures, c.rest.ensures))

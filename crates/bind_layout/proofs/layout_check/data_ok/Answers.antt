@@ -1,6 +1,4 @@
-use mathlib.Core.Path.{◌≡◌, refl, sym, ◌∙◌}
-use borrow.Author.Tests.{not-true, not-false}
-use borrow.Author.Rules.{rules}
+use mathlib.Core.Path.{refl, sym, ◌∙◌}
 use Rattle.bind_layout.specs.BindLayout.{data_ok}
 use Rattle.fields.proofs.Laws.Walks.{walk_end, walk_step}
 use Rattle.bind_layout.proofs.layout_check.data_ok.Goals as goal

@@ -1,9 +1,6 @@
 -- `bind_layout::layout_check::data_ok` meets its contract. The loop's invariant: the answer is that for the headers and the data left.
-use mathlib.Core.Path.{◌≡◌, refl, sym, ◌∙◌}
-use borrow.Author.Tests.{not-true, not-false}
-use borrow.Author.Rules.{rules}
+use mathlib.Core.Path.{◌≡◌}
 use Rattle.bind_layout.specs.BindLayout.{data_ok}
-use Rattle.fields.proofs.Laws.Walks.{walk_end, walk_step}
 use Rattle.bind_layout.proofs.layout_check.data_ok.Given as goal
 
 abbrev pub invariant-loop-left : goal.invariant-loop-left

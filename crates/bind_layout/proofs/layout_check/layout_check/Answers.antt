@@ -4,8 +4,7 @@ use mathlib.Core.Bool.{Bool, true, ◌&&◌}
 use mathlib.Core.List.{List}
 use Prim.Native.Nat.{ℕ}
 use native.Mathlib.Omega.{arith}
-use borrow.Author.Tests.{le-leb, lt-leb, not-true, not-false}
-use borrow.Author.Rules.{rules}
+use borrow.Author.Tests.{le-leb, lt-leb}
 use Rattle.fields.specs.declared.Checked.{Checked}
 use Rattle.bind_layout.specs.BindLayout.{headers, table_size, data_of, types_clean, data_ok, layout_ok}
 use Rattle.fields.proofs.Laws.Numbers.{be_at-lt}

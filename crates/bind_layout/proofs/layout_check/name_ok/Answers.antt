@@ -3,7 +3,6 @@ use mathlib.Core.Path.{sym}
 use native.Mathlib.Omega.{arith}
 use lib.ListN.{length}
 use borrow.Author.Tests.{lt-ltb, le-ltb}
-use borrow.Author.Rules.{rules}
 use Rattle.fields.specs.Text.{text_ok}
 use Rattle.bind_layout.specs.BindLayout.{name_ok}
 use Rattle.bind_layout.proofs.layout_check.name_ok.Goals as goal

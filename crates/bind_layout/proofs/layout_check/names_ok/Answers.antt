@@ -1,6 +1,5 @@
-use mathlib.Core.Path.{◌≡◌, refl, sym, ◌∙◌}
-use borrow.Author.Tests.{le-leb, lt-leb, not-true, not-false}
-use borrow.Author.Rules.{rules}
+use mathlib.Core.Path.{refl, sym, ◌∙◌}
+use borrow.Author.Tests.{le-leb, lt-leb}
 use Rattle.bind_layout.specs.BindLayout.{names_ok}
 use Rattle.fields.proofs.Laws.Walks.{walk_end, walk_step}
 use Rattle.bind_layout.proofs.layout_check.names_ok.Goals as goal

@@ -1,9 +1,6 @@
 -- `bind_layout::layout_check::names_ok` meets its contract. The loop's invariant: the answer is that for the names left.
-use mathlib.Core.Path.{◌≡◌, refl, sym, ◌∙◌}
-use borrow.Author.Tests.{le-leb, lt-leb, not-true, not-false}
-use borrow.Author.Rules.{rules}
+use mathlib.Core.Path.{◌≡◌}
 use Rattle.bind_layout.specs.BindLayout.{names_ok}
-use Rattle.fields.proofs.Laws.Walks.{walk_end, walk_step}
 use Rattle.bind_layout.proofs.layout_check.names_ok.Given as goal
 
 abbrev pub invariant-loop-left : goal.invariant-loop-left

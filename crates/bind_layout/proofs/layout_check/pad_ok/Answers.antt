@@ -1,7 +1,6 @@
 -- `bind_layout::layout_check::pad_ok` meets its contract: the pad's length, then its bytes.
 use mathlib.Core.Path.{sym}
 use borrow.Author.Tests.{le-leb, lt-leb}
-use borrow.Author.Rules.{rules}
 use Rattle.bind_layout.specs.BindLayout.{pad_ok}
 use Rattle.bind_layout.proofs.layout_check.pad_ok.Goals as goal
 

@@ -1,7 +1,6 @@
 -- `bind_layout::layout_check::table_ok` meets its contract: the size, then the names.
 use mathlib.Core.Path.{sym}
 use borrow.Author.Tests.{eq-eqb, ne_eqb}
-use borrow.Author.Rules.{rules}
 use Rattle.bind_layout.specs.BindLayout.{table_ok}
 use Rattle.bind_layout.proofs.layout_check.table_ok.Goals as goal
 

@@ -4,7 +4,6 @@ use mathlib.Core.List.{List}
 use Prim.Native.Nat.{ℕ, ◌-◌}
 use lib.ListN.{take}
 use borrow.Author.Tests.{not-true, not-false}
-use borrow.Author.Rules.{rules}
 use Rattle.fields.specs.Text.{text_ok, field_ok}
 use Rattle.fields.specs.declared.text.TextField.{TextField}
 use Rattle.fields.proofs.Laws.Checks.{and_assoc, and-true, and-false}

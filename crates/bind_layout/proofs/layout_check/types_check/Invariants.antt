@@ -1,16 +1,7 @@
 -- `bind_layout::layout_check::types_check` meets its contract. The loop's invariant: the answer is that for the headers left, with the mark so far.
-use mathlib.Core.Path.{◌≡◌, refl, sym, ap, ap₂, ◌∙◌}
-use mathlib.Core.Bool.{Bool, true, false, cond, ◌&&◌}
-use mathlib.Core.List.{List}
-use Prim.Native.Nat.{ℕ, ◌-◌}
-use lib.ListN.{take}
-use borrow.Author.Tests.{not-true, not-false}
-use borrow.Author.Rules.{rules}
-use Rattle.fields.specs.Text.{text_ok, field_ok}
-use Rattle.fields.specs.declared.text.TextField.{TextField}
-use Rattle.fields.proofs.Laws.Checks.{and_assoc, and-true, and-false}
+use mathlib.Core.Path.{◌≡◌}
+use mathlib.Core.Bool.{◌&&◌}
 use Rattle.bind_layout.specs.BindLayout.{types_ok, types_clean}
-use Rattle.bind_layout.proofs.Laws.Marks.{types-end, types-stop, types-next, clean-next, clean-stop, types-answer}
 use Rattle.bind_layout.proofs.layout_check.types_check.Given as goal
 
 abbrev pub invariant-loop-left : goal.invariant-loop-left

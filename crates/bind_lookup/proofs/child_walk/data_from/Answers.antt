@@ -1,9 +1,8 @@
 use Prim.Native.Nat.{ℕ, ◌-◌}
-use mathlib.Core.Path.{◌≡◌, sym, ap, ap₂, ◌∙◌}
-use Rattle.bind_layout.specs.BindLayout.{headers, data_of, after_block}
+use mathlib.Core.Path.{sym, ap, ap₂, ◌∙◌}
+use Rattle.bind_layout.specs.BindLayout.{after_block}
 use Rattle.bind_lookup.specs.ChildLookup.{data_from}
 use Rattle.fields.proofs.Laws.Walks.{walk_end, walk_step}
-use borrow.Author.Rules.{rules}
 use Rattle.bind_lookup.proofs.child_walk.data_from.Goals as goal
 
 pub loop-left-init : goal.loop-left-init

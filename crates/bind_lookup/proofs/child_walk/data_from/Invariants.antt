@@ -1,10 +1,7 @@
 -- `bind_lookup::child_walk::data_from` meets its contract. The loop's invariant: the data are those of what is left of the headers and of the data.
-use Prim.Native.Nat.{ℕ, ◌-◌}
-use mathlib.Core.Path.{◌≡◌, sym, ap, ap₂, ◌∙◌}
-use Rattle.bind_layout.specs.BindLayout.{headers, data_of, after_block}
+use mathlib.Core.Path.{◌≡◌}
+use Rattle.bind_layout.specs.BindLayout.{headers, data_of}
 use Rattle.bind_lookup.specs.ChildLookup.{data_from}
-use Rattle.fields.proofs.Laws.Walks.{walk_end, walk_step}
-use borrow.Author.Rules.{rules}
 use Rattle.bind_lookup.proofs.child_walk.data_from.Given as goal
 
 abbrev pub invariant-loop-left : goal.invariant-loop-left

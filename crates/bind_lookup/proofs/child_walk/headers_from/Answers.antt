@@ -3,7 +3,6 @@ use mathlib.Core.Path.{sym, ap}
 use Prim.Native.Nat.{◌*◌, ◌≤◌}
 use native.Mathlib.Omega.{arith}
 use lib.ListN.{length, drop_of_length-le}
-use borrow.Author.Rules.{rules}
 use Rattle.bind_layout.specs.BindLayout.{headers}
 use Rattle.bind_lookup.proofs.child_walk.headers_from.Goals as goal
 

@@ -1,4 +1,4 @@
-use Prim.Native.Nat.{ℕ, suc, ◌+◌, ◌-◌, ◌≤◌}
+use Prim.Native.Nat.{ℕ, suc, ◌+◌, ◌-◌}
 use mathlib.Core.Path.{◌≡◌, sym, ap, ◌∙◌}
 use mathlib.Core.List.{List}
 use native.Mathlib.Omega.{arith}
@@ -6,7 +6,6 @@ use native.Mathlib.Nat.{sub-zero}
 use Rattle.fields.specs.Bytes.{same}
 use Rattle.bind_lookup.specs.ChildLookup.{index_in}
 use Rattle.bind_lookup.proofs.Laws.Lookup.{index-next}
-use borrow.Author.Rules.{rules}
 use Rattle.bind_lookup.proofs.child_walk.index_in.Goals as goal
 
 pub loop-i-init : goal.loop-i-init

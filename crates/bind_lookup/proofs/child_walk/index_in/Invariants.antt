@@ -1,13 +1,7 @@
 -- `bind_lookup::child_walk::index_in` meets its contract. The loop's invariant: the number is `i` and that of the names from name `i` on.
-use Prim.Native.Nat.{ℕ, suc, ◌+◌, ◌-◌, ◌≤◌}
-use mathlib.Core.Path.{◌≡◌, sym, ap, ◌∙◌}
-use mathlib.Core.List.{List}
-use native.Mathlib.Omega.{arith}
-use native.Mathlib.Nat.{sub-zero}
-use Rattle.fields.specs.Bytes.{same}
+use Prim.Native.Nat.{◌+◌, ◌-◌, ◌≤◌}
+use mathlib.Core.Path.{◌≡◌}
 use Rattle.bind_lookup.specs.ChildLookup.{index_in}
-use Rattle.bind_lookup.proofs.Laws.Lookup.{index-next}
-use borrow.Author.Rules.{rules}
 use Rattle.bind_lookup.proofs.child_walk.index_in.Given as goal
 
 abbrev pub invariant-loop-i : goal.invariant-loop-i

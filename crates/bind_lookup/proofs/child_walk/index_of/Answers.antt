@@ -1,5 +1,4 @@
 -- `bind_lookup::child_walk::index_of` meets its contract.
-use borrow.Author.Rules.{rules}
 use Rattle.bind_lookup.proofs.child_walk.index_of.Goals as goal
 
 pub returns : goal.returns

@@ -1,8 +1,7 @@
 use Prim.Native.Nat.{◌-◌}
-use mathlib.Core.Path.{◌≡◌, refl, sym, ap, ◌∙◌}
+use mathlib.Core.Path.{refl, sym, ap, ◌∙◌}
 use Rattle.bind_lookup.specs.ChildLookup.{names_from}
 use Rattle.fields.proofs.Laws.Walks.{walk_end, walk_step}
-use borrow.Author.Rules.{rules}
 use Rattle.bind_lookup.proofs.child_walk.names_from.Goals as goal
 
 pub loop-left-init : goal.loop-left-init

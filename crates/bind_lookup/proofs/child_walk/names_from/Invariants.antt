@@ -1,9 +1,6 @@
 -- `bind_lookup::child_walk::names_from` meets its contract. The loop's invariant: the names are those of what is left of the table.
-use Prim.Native.Nat.{◌-◌}
-use mathlib.Core.Path.{◌≡◌, refl, sym, ap, ◌∙◌}
+use mathlib.Core.Path.{◌≡◌}
 use Rattle.bind_lookup.specs.ChildLookup.{names_from}
-use Rattle.fields.proofs.Laws.Walks.{walk_end, walk_step}
-use borrow.Author.Rules.{rules}
 use Rattle.bind_lookup.proofs.child_walk.names_from.Given as goal
 
 abbrev pub invariant-loop-left : goal.invariant-loop-left

@@ -1,9 +1,8 @@
-use Prim.Native.Nat.{ℕ, ◌≤◌, ◌<◌, ◌*◌, ◌+◌, ◌-◌, ◌^◌}
-use mathlib.Core.Path.{◌≡◌, refl, ap, sym, ◌∙◌}
+use Prim.Native.Nat.{ℕ, ◌≤◌, ◌<◌, ◌*◌, ◌+◌}
+use mathlib.Core.Path.{refl, ap, sym, ◌∙◌}
 use native.Mathlib.Omega.{arith}
-use lib.ListN.{length, take, get_or, length-take, drop}
+use lib.ListN.{length, get_or, length-take, drop}
 use lib.Seq.{take_all}
-use borrow.Author.Rules.{rules}
 use Rattle.fields.specs.Numbers.{be_val}
 use Rattle.fields.proofs.Laws.Numbers.{be_val-next, next-lt, next_fits, more_lt}
 use Rattle.fields.proofs.number.be.Goals as goal

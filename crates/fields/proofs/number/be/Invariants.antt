@@ -1,12 +1,8 @@
 -- `fields::number::be` meets its contract. The loop's invariant: `v` is the number of the first `i` bytes, below 256 to the power of `i`.
-use Prim.Native.Nat.{ℕ, ◌≤◌, ◌<◌, ◌*◌, ◌+◌, ◌-◌, ◌^◌}
-use mathlib.Core.Path.{◌≡◌, refl, ap, sym, ◌∙◌}
-use native.Mathlib.Omega.{arith}
-use lib.ListN.{length, take, get_or, length-take, drop}
-use lib.Seq.{take_all}
-use borrow.Author.Rules.{rules}
+use Prim.Native.Nat.{◌≤◌, ◌<◌, ◌-◌, ◌^◌}
+use mathlib.Core.Path.{◌≡◌}
+use lib.ListN.{length, take}
 use Rattle.fields.specs.Numbers.{be_val}
-use Rattle.fields.proofs.Laws.Numbers.{be_val-next, next-lt, next_fits, more_lt}
 use Rattle.fields.proofs.number.be.Given as goal
 
 abbrev pub invariant-loop-i : goal.invariant-loop-i

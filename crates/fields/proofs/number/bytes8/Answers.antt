@@ -1,6 +1,5 @@
 -- `fields::number::bytes8` meets its contract: each byte is a digit to the base 256.
 use native.Mathlib.Nat.{div-one}
-use borrow.Author.Rules.{rules}
 use Rattle.fields.specs.Numbers.{be_bytes}
 use Rattle.fields.proofs.number.bytes8.Goals as goal
 

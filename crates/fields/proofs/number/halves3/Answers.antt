@@ -1,5 +1,4 @@
 -- `fields::number::halves3` meets its contract: the numbers of what is left from the place on.
-use borrow.Author.Rules.{rules}
 use Rattle.fields.proofs.Laws.Layout.{three-read}
 use Rattle.fields.proofs.number.halves3.Goals as goal
 

@@ -5,7 +5,6 @@ use mathlib.Core.Path.{ap, ◌∙◌}
 use native.Mathlib.Omega.{arith}
 use lib.ListN.{take, drop}
 use lib.Seq.{sets}
-use borrow.Author.Rules.{rules}
 use Rattle.fields.proofs.Laws.Numbers.{last-be_bytes}
 use Rattle.fields.proofs.number.put_be.Goals as goal
 

@@ -1,7 +1,6 @@
 -- `fields::slice::part` meets its contract.
 use mathlib.Core.Path.{ap, ◌∙◌}
 use lib.ListN.{take}
-use borrow.Author.Rules.{rules}
 use Rattle.fields.proofs.slice.part.Goals as goal
 
 pub returns : goal.returns

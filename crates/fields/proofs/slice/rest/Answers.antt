@@ -2,7 +2,6 @@
 use mathlib.Core.Path.{sym}
 use native.Mathlib.Omega.{arith}
 use lib.ListN.{drop_of_length-le}
-use borrow.Author.Rules.{rules}
 use Rattle.fields.proofs.Laws.Bytes.{rest_part}
 use Rattle.fields.proofs.slice.rest.Goals as goal
 

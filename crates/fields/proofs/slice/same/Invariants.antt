@@ -1,12 +1,8 @@
 -- `fields::slice::same` meets its contract. The loop's invariant: the answer is that for the bytes from `i` on.
 use Prim.Native.Nat.{◌≤◌, ◌-◌}
-use mathlib.Core.Path.{◌≡◌, refl, sym, ◌∙◌}
-use native.Mathlib.Omega.{arith}
-use lib.ListN.{length, get_or, drop}
-use borrow.Author.Tests.{eq-eqb, ne_eqb}
-use borrow.Author.Rules.{rules}
+use mathlib.Core.Path.{◌≡◌}
+use lib.ListN.{length, drop}
 use Rattle.fields.specs.Bytes.{same}
-use Rattle.fields.proofs.Laws.Bytes.{same_at, same_end, same-lengths}
 use Rattle.fields.proofs.slice.same.Given as goal
 
 abbrev pub invariant-loop-i : goal.invariant-loop-i

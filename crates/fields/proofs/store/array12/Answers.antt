@@ -1,6 +1,5 @@
 -- `fields::store::array12` meets its contract: a copy into zeros.
 use mathlib.Core.Path.{◌∙◌}
-use borrow.Author.Rules.{rules}
 use Rattle.fields.proofs.Laws.Stores.{sets-zeros}
 use Rattle.fields.proofs.store.array12.Goals as goal
 

@@ -1,12 +1,8 @@
 -- `fields::store::put` meets its contract. The loop's invariant: the first `i` bytes of what fits are stored.
-use Prim.Native.Nat.{ℕ, ◌≤◌, ◌-◌, ◌+◌}
-use mathlib.Core.List.{List}
-use mathlib.Core.Path.{◌≡◌, refl, ap, sym, ◌∙◌}
-use native.Mathlib.Omega.{arith}
-use lib.ListN.{length, get_or, take, set, length-set, length-take}
-use lib.Seq.{sets, take_all}
-use borrow.Author.Rules.{rules}
-use Rattle.fields.proofs.Laws.Stores.{put_next, sets-take, sets-past}
+use Prim.Native.Nat.{◌≤◌, ◌-◌, ◌+◌}
+use mathlib.Core.Path.{◌≡◌}
+use lib.ListN.{length, take}
+use lib.Seq.{sets}
 use Rattle.fields.proofs.store.put.Given as goal
 
 abbrev pub invariant-loop-i : goal.invariant-loop-i

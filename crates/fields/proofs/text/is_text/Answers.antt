@@ -1,8 +1,6 @@
-use Prim.Native.Nat.{◌-◌}
-use mathlib.Core.Path.{◌≡◌, refl, sym, ◌∙◌}
+use mathlib.Core.Path.{refl, sym, ◌∙◌}
 use native.Mathlib.Omega.{arith}
-use lib.ListN.{length, get_or, drop}
-use borrow.Author.Rules.{rules}
+use lib.ListN.{get_or}
 use Rattle.fields.specs.Text.{is_text, text_byte}
 use Rattle.fields.proofs.Laws.Lists.{all-step, all-stop, all_end}
 use Rattle.fields.proofs.Laws.Text.{text-byte, text-byte-low, text-byte-high}

@@ -1,12 +1,8 @@
 -- `fields::text::is_text` meets its contract. The loop's invariant: the answer is that for the bytes from `i` on.
 use Prim.Native.Nat.{◌-◌}
-use mathlib.Core.Path.{◌≡◌, refl, sym, ◌∙◌}
-use native.Mathlib.Omega.{arith}
-use lib.ListN.{length, get_or, drop}
-use borrow.Author.Rules.{rules}
-use Rattle.fields.specs.Text.{is_text, text_byte}
-use Rattle.fields.proofs.Laws.Lists.{all-step, all-stop, all_end}
-use Rattle.fields.proofs.Laws.Text.{text-byte, text-byte-low, text-byte-high}
+use mathlib.Core.Path.{◌≡◌}
+use lib.ListN.{length, drop}
+use Rattle.fields.specs.Text.{is_text}
 use Rattle.fields.proofs.text.is_text.Given as goal
 
 abbrev pub invariant-loop-i : goal.invariant-loop-i

@@ -3,7 +3,6 @@ use Prim.Native.Nat.{ℕ, ◌+◌}
 use mathlib.Core.Path.{ap, sym, ◌∙◌}
 use native.Mathlib.Omega.{arith}
 use lib.ListN.{drop}
-use borrow.Author.Rules.{rules}
 use Rattle.fields.proofs.Laws.Text.{past-drop, length-text_of}
 use Rattle.fields.proofs.text.past_text.Goals as goal
 

@@ -1,5 +1,4 @@
 -- `fields::text::put_text12` meets its contract.
-use borrow.Author.Rules.{rules}
 use Rattle.fields.specs.Text.{text_bytes}
 use Rattle.fields.proofs.text.put_text12.Goals as goal
 

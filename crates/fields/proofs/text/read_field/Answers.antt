@@ -1,11 +1,7 @@
-use Prim.Native.Nat.{◌-◌}
-use mathlib.Core.Path.{◌≡◌, sym, ap, ◌∙◌}
+use mathlib.Core.Path.{sym, ap, ◌∙◌}
 use native.Mathlib.Omega.{arith}
-use lib.ListN.{length, drop}
-use borrow.Author.Rules.{rules}
 use Rattle.fields.specs.Text.{all_zero}
-use Rattle.fields.specs.Received.{field_read}
-use Rattle.fields.proofs.Laws.Received.{field_from, from_start, from_end, from_zero, from-high, from_next}
+use Rattle.fields.proofs.Laws.Received.{from_start, from_end, from_zero, from-high, from_next}
 use Rattle.fields.proofs.text.read_field.Goals as goal
 
 pub loop-i-init : goal.loop-i-init

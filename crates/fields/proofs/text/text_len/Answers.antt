@@ -1,9 +1,4 @@
-use Prim.Native.Nat.{◌-◌, ◌+◌}
-use mathlib.Core.Path.{◌≡◌}
 use native.Mathlib.Omega.{arith}
-use lib.ListN.{length, drop}
-use borrow.Author.Rules.{rules}
-use Rattle.fields.specs.Text.{text_of}
 use Rattle.fields.proofs.Laws.Text.{text-end, text-stop, text-step}
 use Rattle.fields.proofs.text.text_len.Goals as goal
 

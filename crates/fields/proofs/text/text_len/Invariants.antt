@@ -1,11 +1,8 @@
 -- `fields::text::text_len` meets its contract. The loop's invariant: the length is `i` and that of the text from `i` on.
 use Prim.Native.Nat.{◌-◌, ◌+◌}
 use mathlib.Core.Path.{◌≡◌}
-use native.Mathlib.Omega.{arith}
 use lib.ListN.{length, drop}
-use borrow.Author.Rules.{rules}
 use Rattle.fields.specs.Text.{text_of}
-use Rattle.fields.proofs.Laws.Text.{text-end, text-stop, text-step}
 use Rattle.fields.proofs.text.text_len.Given as goal
 
 abbrev pub invariant-loop-i : goal.invariant-loop-i

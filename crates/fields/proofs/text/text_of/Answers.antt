@@ -2,7 +2,6 @@
 use Prim.Native.Nat.{ℕ}
 use mathlib.Core.Path.{ap, sym, ◌∙◌}
 use lib.ListN.{take}
-use borrow.Author.Rules.{rules}
 use Rattle.fields.proofs.Laws.Text.{text-take}
 use Rattle.fields.proofs.text.text_of.Goals as goal
 

@@ -6,9 +6,6 @@ use Rattle.message.specs.declared.Layout.{Layout}
 use Rattle.message.specs.Body.{extended_numbers, MetadataFits}
 use Rattle.message.proofs.extended.extended_numbers.Goals as goal
 
-pub enum_told-1 : goal.enum_told-1
-enum_told-1 c = search rules
-
 pub overflow_cast-result : goal.overflow_cast-result
 overflow_cast-result c =
     let a = c.args in

@@ -5,9 +5,6 @@ use Rattle.message.specs.declared.Layout.{Layout}
 use Rattle.message.specs.MessageReader.{id_at}
 use Rattle.message.proofs.extended.id_at.Goals as goal
 
-pub enum_told-1 : goal.enum_told-1
-enum_told-1 c = search rules
-
 pub returns-in-New : goal.returns-in-New
 returns-in-New c = c.be32.ensures ∙ sym (ap (λ (l : Layout). id_at l c.args.body.now) c.in-New.is)
 

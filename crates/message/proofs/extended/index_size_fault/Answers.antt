@@ -8,9 +8,6 @@ use Rattle.metadata.specs.MetadataCheck.{index_size_in}
 use Rattle.message.specs.MessageReader.{index_at, index_size_fault}
 use Rattle.message.proofs.extended.index_size_fault.Goals as goal
 
-pub enum_told-1 : goal.enum_told-1
-enum_told-1 c = search rules
-
 pub returns-then-be16-index_size : goal.returns-then-be16-index_size
 returns-then-be16-index_size c =
     let a = c.args in

@@ -6,9 +6,6 @@ use Rattle.message.specs.declared.Layout.{Layout}
 use Rattle.message.specs.MessageReader.{section_size}
 use Rattle.message.proofs.extended.section_size.Goals as goal
 
-pub enum_told-1 : goal.enum_told-1
-enum_told-1 c = search rules
-
 pub returns-in-New : goal.returns-in-New
 returns-in-New c =
     let b = c.args.body.now in

@@ -5,9 +5,6 @@ use Rattle.message.specs.declared.Layout.{Layout}
 use Rattle.message.specs.MessageWriter.{size_fits}
 use Rattle.message.proofs.extended.size_fits.Goals as goal
 
-pub enum_told-1 : goal.enum_told-1
-enum_told-1 c = search rules
-
 pub returns-in-New : goal.returns-in-New
 returns-in-New c = let a = c.args in
     sym (ap (λ (l : Layout). size_fits l a.index a.metadata) c.in-New.is)

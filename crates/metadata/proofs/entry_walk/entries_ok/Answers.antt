@@ -1,8 +1,6 @@
-use mathlib.Core.Path.{◌≡◌, refl, sym, ◌∙◌}
-use borrow.Author.Tests.{not-true, not-false}
+use mathlib.Core.Path.{refl, sym, ◌∙◌}
 use Rattle.fields.proofs.Laws.Walks.{walk_end, walk_step}
 use Rattle.metadata.specs.MetadataCheck.{entries_ok}
-use borrow.Author.Rules.{rules}
 use Rattle.metadata.proofs.entry_walk.entries_ok.Goals as goal
 
 pub loop-left-init : goal.loop-left-init

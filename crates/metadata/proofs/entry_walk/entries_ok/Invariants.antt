@@ -1,9 +1,6 @@
 -- `metadata::entry_walk::entries_ok` meets its contract. The loop's invariant: the answer is that for the headers and the data left.
-use mathlib.Core.Path.{◌≡◌, refl, sym, ◌∙◌}
-use borrow.Author.Tests.{not-true, not-false}
-use Rattle.fields.proofs.Laws.Walks.{walk_end, walk_step}
+use mathlib.Core.Path.{◌≡◌}
 use Rattle.metadata.specs.MetadataCheck.{entries_ok}
-use borrow.Author.Rules.{rules}
 use Rattle.metadata.proofs.entry_walk.entries_ok.Given as goal
 
 abbrev pub invariant-loop-left : goal.invariant-loop-left

@@ -18,9 +18,6 @@ returns-then-rest-entry_size c =
     let k = c.key_size-key_size in
     sym (simp (sym c.entry_size.ensures) (simp (sym k.ensures) (simp (lt-ltb 0 k.result (omega arith), lt-leb _ _ c.if-rest-entry_size.true))))
 
-pub is_text-requires : goal.is_text-requires
-is_text-requires c = search rules
-
 pub returns : goal.returns
 unfolding entry_ok
 returns c =

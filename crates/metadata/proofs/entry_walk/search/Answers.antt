@@ -1,4 +1,4 @@
-use Prim.Native.Nat.{ℕ, ◌+◌, ◌-◌, ◌*◌, ◌≤◌}
+use Prim.Native.Nat.{ℕ, ◌+◌, ◌-◌, ◌*◌}
 use mathlib.Core.Bool.{true, false}
 use mathlib.Core.List.{List}
 use mathlib.Core.Path.{◌≡◌, ap, ap₂, sym, ◌∙◌}
@@ -6,10 +6,9 @@ use native.Mathlib.Omega.{arith}
 use lib.ListN.{length, take, drop, length-drop}
 use Rattle.fields.specs.Bytes.{same}
 use Rattle.fields.proofs.Laws.Walks.{walk_end, walk_step}
-use Rattle.metadata.specs.ValueLookup.{place_in, searched}
+use Rattle.metadata.specs.ValueLookup.{place_in}
 use Rattle.metadata.specs.MetadataCheck.{index_count, key_size, entry_size}
 use Rattle.metadata.proofs.Laws.Search.{search-found, search-next}
-use borrow.Author.Rules.{rules}
 use Rattle.metadata.proofs.entry_walk.search.Goals as goal
 
 pub loop-left-init : goal.loop-left-init

@@ -1,17 +1,9 @@
 -- `metadata::entry_walk::search` meets its contract. The loop's invariant: the data left are no longer than the section, and the answer is that for
 -- the headers and the data left.
-use Prim.Native.Nat.{ℕ, ◌+◌, ◌-◌, ◌*◌, ◌≤◌}
-use mathlib.Core.Bool.{true, false}
-use mathlib.Core.List.{List}
-use mathlib.Core.Path.{◌≡◌, ap, ap₂, sym, ◌∙◌}
-use native.Mathlib.Omega.{arith}
-use lib.ListN.{length, take, drop, length-drop}
-use Rattle.fields.specs.Bytes.{same}
-use Rattle.fields.proofs.Laws.Walks.{walk_end, walk_step}
+use Prim.Native.Nat.{◌≤◌}
+use mathlib.Core.Path.{◌≡◌}
+use lib.ListN.{length}
 use Rattle.metadata.specs.ValueLookup.{place_in, searched}
-use Rattle.metadata.specs.MetadataCheck.{index_count, key_size, entry_size}
-use Rattle.metadata.proofs.Laws.Search.{search-found, search-next}
-use borrow.Author.Rules.{rules}
 use Rattle.metadata.proofs.entry_walk.search.Given as goal
 
 abbrev pub invariant-loop-left : goal.invariant-loop-left

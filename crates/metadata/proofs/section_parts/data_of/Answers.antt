@@ -1,7 +1,6 @@
 -- `metadata::section_parts::data_of` meets its contract: the count is that of two bytes, so the sum fits.
 use native.Mathlib.Omega.{arith}
 use Rattle.fields.proofs.Laws.Numbers.{be_at-lt}
-use borrow.Author.Rules.{rules}
 use Rattle.metadata.proofs.section_parts.data_of.Goals as goal
 
 pub overflow_mul-index_count : goal.overflow_mul-index_count

@@ -2,7 +2,6 @@
 use native.Mathlib.Omega.{arith}
 use Rattle.fields.specs.Bytes.{Bytes}
 use Rattle.fields.proofs.Laws.Numbers.{be_at-lt}
-use borrow.Author.Rules.{rules}
 use Rattle.metadata.proofs.section_parts.entry_size.Goals as goal
 
 pub overflow_add-result : goal.overflow_add-result
