@@ -1,6 +1,8 @@
 // A walk through the children of a BIND content, one after the other (rule 6.4). The content is judged once, by `first_child`, and each
 // step costs a constant and the length of a name. A cursor holds numbers and places only; the content is passed along with it. Of a cursor
 // that is not of this content each function still gives an answer: the parts are what stands at its places.
+#![tactic(auto)]
+
 ghost use Rattle.std.specs.Prelude.{◌≡◌, ◌-◌, length};
 ghost use Rattle.bind_cursor.specs.Cursor.{names_of, no_child, child_at, first_of, next_of, type_part, name_part, data_part};
 

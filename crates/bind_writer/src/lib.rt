@@ -1,5 +1,7 @@
 // The writer of a BIND content, from its children's types, names and contents. It refuses before the first byte is written, and makes no
 // sum of lengths that could wrap: what is left is counted down.
+#![tactic(auto)]
+
 ghost use Rattle.std.specs.Prelude.{◌≡◌, true, map, ◌++◌, ◌+◌, ◌*◌, ◌%◌, ◌≤◌, min, length, replicate};
 ghost use Rattle.std.proofs.lemmas.List.Edits.{sets};
 ghost use Rattle.fields.specs.Lists.{all_of, flat};

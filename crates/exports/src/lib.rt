@@ -1,6 +1,8 @@
 // What programs in other languages call: the library as a static archive, for scripts/differential and scripts/bench. A slice is a pointer
 // and a length there. A layout is a number: 1 is the old one, any other the new. An answer of several numbers is written into a lent buffer, each
 // number in eight bytes.
+#![tactic(auto)]
+
 ghost use Rattle.std.specs.Prelude.{◌≡◌, [], ◌∷◌, length, replicate};
 ghost use Rattle.std.proofs.lemmas.List.Edits.{sets};
 ghost use Rattle.fields.specs.Layout.{stores, number_fields};

@@ -1,5 +1,7 @@
 // Messages from a stream that arrives in fragments (section 12 of docs/RULES.md). A feed reads them from what is pushed to it, over a buffer that
 // the caller lends to each push and leaves alone in between.
+#![tactic(auto)]
+
 ghost use Rattle.std.specs.Prelude.{◌≡◌, ◌-◌, ◌≤◌, min, ◌++◌, length, take};
 ghost use Rattle.std.proofs.lemmas.List.Edits.{sets};
 ghost use Rattle.header.specs.Header.{header_size};

@@ -1,4 +1,6 @@
 // Whole messages: the reader of the front of a byte stream, the parts that its answer names, and the writer.
+#![tactic(auto)]
+
 mod body;
 mod extended;
 

@@ -2,7 +2,6 @@
 use mathlib.Core.Path.{sym, ◌∙◌}
 use borrow.Author.Tests.{eq-eqb, ne_eqb}
 use Rattle.bind_cursor.specs.Cursor.{child_at}
-use borrow.Author.Rules.{rules}
 use Rattle.bind_cursor.proofs.child_at.Goals as goal
 
 pub returns-then-left-eq0 : goal.returns-then-left-eq0

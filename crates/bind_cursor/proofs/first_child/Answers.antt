@@ -5,7 +5,6 @@ use Rattle.fields.specs.declared.Checked.{Checked}
 use Rattle.content.specs.ContentCheck.{deepest}
 use Rattle.content.proofs.Laws.ChildrenWalk.{bind-fault}
 use Rattle.bind_cursor.specs.Cursor.{first_of}
-use borrow.Author.Rules.{rules}
 use Rattle.bind_cursor.proofs.first_child.Goals as goal
 
 pub returns-then-answer-ne0 : goal.returns-then-answer-ne0

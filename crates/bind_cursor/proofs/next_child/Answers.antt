@@ -5,7 +5,6 @@ use lib.ListN.{drop}
 use borrow.Author.Tests.{eq-eqb, ne_eqb}
 use Rattle.bind_layout.specs.BindLayout.{after_block}
 use Rattle.bind_cursor.specs.Cursor.{child_at, next_of}
-use borrow.Author.Rules.{rules}
 use Rattle.bind_cursor.proofs.next_child.Goals as goal
 
 pub returns-then-cursor-ne0 : goal.returns-then-cursor-ne0

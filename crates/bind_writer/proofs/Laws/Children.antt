@@ -4,7 +4,7 @@ use mathlib.Core.Path.{◌≡◌, refl, sym, ap, ap₂, ◌∙◌}
 use mathlib.Core.Bool.{Bool, true, false, ◌&&◌}
 use mathlib.Core.List.{List, [], ◌∷◌, ◌++◌, map}
 use native.Mathlib.Omega.{arith}
-use denote.Ref.{Bor, MutBor}
+use denote.Ref.{Bor}
 use lib.ListN.{length, get_or, take, drop, replicate, length-append}
 use lib.Seq.{sets, length-take-le}
 use Rattle.fields.specs.Numbers.{be_bytes}

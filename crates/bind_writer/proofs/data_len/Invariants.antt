@@ -1,15 +1,10 @@
 -- `bind_writer::data_len` meets its contract. The loop's invariant: the first `i` contents and `left` make up `most`.
 use Prim.Native.Nat.{◌+◌, ◌-◌, ◌≤◌}
-use mathlib.Core.Path.{◌≡◌, ap}
+use mathlib.Core.Path.{◌≡◌}
 use mathlib.Core.List.{map}
-use native.Mathlib.Omega.{arith}
-use lib.ListN.{length, take, get_or}
-use borrow.Author.Rules.{rules}
+use lib.ListN.{length, take}
 use Rattle.fields.specs.Lists.{flat}
-use Rattle.fields.proofs.Laws.Lists.{flat-none}
 use Rattle.bind_layout.specs.Children.{padded}
-use Rattle.bind_writer.proofs.Laws.Slices.{none, slices-all, length-slices-next, length-slices-le}
-use Rattle.bind_layout.proofs.Laws.Children.{length-padded}
 use Rattle.bind_writer.proofs.data_len.Given as goal
 
 abbrev pub invariant-loop-i : goal.invariant-loop-i

@@ -1,11 +1,5 @@
-use Prim.Native.Nat.{◌-◌, ◌≤◌}
-use mathlib.Core.Path.{◌≡◌, refl, sym, ◌∙◌}
-use mathlib.Core.List.{map}
+use mathlib.Core.Path.{refl, sym, ◌∙◌}
 use native.Mathlib.Omega.{arith}
-use lib.ListN.{length, drop}
-use borrow.Author.Rules.{rules}
-use Rattle.content.specs.ContentTheorems.{first_fault}
-use Rattle.bind_writer.specs.ChildLists.{WithContents}
 use Rattle.bind_writer.specs.BindWriter.{child_fault}
 use Rattle.bind_writer.proofs.Laws.Slices.{length-given}
 use Rattle.content.proofs.Laws.Faults.{first-end}

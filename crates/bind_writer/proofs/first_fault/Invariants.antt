@@ -1,16 +1,11 @@
 -- `bind_writer::first_fault` meets its contract. The loop's invariant: the first fault of all children is that of those from place `i` on.
 use Prim.Native.Nat.{◌-◌, ◌≤◌}
-use mathlib.Core.Path.{◌≡◌, refl, sym, ◌∙◌}
+use mathlib.Core.Path.{◌≡◌}
 use mathlib.Core.List.{map}
-use native.Mathlib.Omega.{arith}
 use lib.ListN.{length, drop}
-use borrow.Author.Rules.{rules}
 use Rattle.content.specs.ContentTheorems.{first_fault}
 use Rattle.bind_writer.specs.ChildLists.{WithContents}
 use Rattle.bind_writer.specs.BindWriter.{child_fault}
-use Rattle.bind_writer.proofs.Laws.Slices.{length-given}
-use Rattle.content.proofs.Laws.Faults.{first-end}
-use Rattle.bind_writer.proofs.Laws.Children.{faults-stop, faults-next}
 use Rattle.bind_writer.proofs.first_fault.Given as goal
 
 abbrev pub invariant-loop-i : goal.invariant-loop-i

@@ -4,8 +4,7 @@ use mathlib.Core.Bool.{false≢true}
 use mathlib.Core.List.{map}
 use native.Mathlib.Omega.{arith}
 use lib.ListN.{length, length-map}
-use borrow.Author.Tests.{not-true, not-false, leb-true, le-leb}
-use borrow.Author.Rules.{rules}
+use borrow.Author.Tests.{leb-true, le-leb}
 use Rattle.bind_layout.specs.Children.{name_table}
 use Rattle.bind_writer.specs.ChildLists.{children}
 use Rattle.bind_writer.proofs.Laws.Slices.{same_count, count_same}

@@ -1,15 +1,10 @@
 -- `bind_writer::names_len` meets its contract. The loop's invariant: `sum` is the length of the first `i` names, and at most 65,535.
 use Prim.Native.Nat.{◌-◌, ◌≤◌}
-use mathlib.Core.Path.{◌≡◌, ap}
+use mathlib.Core.Path.{◌≡◌}
 use mathlib.Core.List.{map}
-use native.Mathlib.Omega.{arith}
-use lib.ListN.{length, take, get_or}
-use borrow.Author.Rules.{rules}
+use lib.ListN.{length, take}
 use Rattle.fields.specs.Lists.{flat}
-use Rattle.fields.proofs.Laws.Lists.{flat-none}
 use Rattle.bind_layout.specs.Children.{ended}
-use Rattle.bind_writer.proofs.Laws.Slices.{none, slices-all, length-slices-next, length-slices-le}
-use Rattle.bind_writer.proofs.Laws.Encoding.{length-ended}
 use Rattle.bind_writer.proofs.names_len.Given as goal
 
 abbrev pub invariant-loop-i : goal.invariant-loop-i

@@ -6,7 +6,6 @@ use native.Mathlib.Omega.{arith}
 use lib.ListN.{length, length-map}
 use lib.Seq.{sets}
 use borrow.Author.Tests.{leb-true}
-use borrow.Author.Rules.{rules}
 use Rattle.fields.specs.Numbers.{be_bytes}
 use Rattle.fields.specs.Lists.{flat}
 use Rattle.bind_layout.specs.Children.{padded, name_table, ended}

@@ -5,7 +5,6 @@ use mathlib.Core.List.{List}
 use native.Mathlib.Omega.{arith}
 use lib.ListN.{length, replicate}
 use lib.Seq.{sets}
-use borrow.Author.Rules.{rules}
 use Rattle.fields.proofs.Laws.Stores.{sets-append}
 use Rattle.bind_layout.specs.Children.{padded}
 use Rattle.bind_layout.proofs.Laws.Children.{length-padded}

@@ -1,14 +1,11 @@
-use Prim.Native.Nat.{ℕ, ◌+◌, ◌-◌, ◌≤◌}
-use mathlib.Core.Path.{◌≡◌, refl, ap, ap₂, sym, ◌∙◌}
+use Prim.Native.Nat.{ℕ, ◌+◌}
+use mathlib.Core.Path.{refl, ap, ap₂, sym, ◌∙◌}
 use mathlib.Core.List.{List, map}
 use native.Mathlib.Omega.{arith}
-use lib.ListN.{length, take, get_or}
+use lib.ListN.{length, get_or}
 use lib.Seq.{sets}
-use borrow.Author.Rules.{rules}
-use Rattle.fields.specs.Lists.{flat}
 use Rattle.fields.proofs.Laws.Lists.{flat-none, flat-all}
 use Rattle.bind_layout.specs.Children.{padded}
-use Rattle.bind_writer.specs.ChildLists.{WithContents}
 use Rattle.bind_writer.specs.BindWriter.{clean_content, clean_data}
 use Rattle.bind_writer.proofs.Laws.Slices.{none, length-given, slices-all, length-slices-next, length-slices-le}
 use Rattle.bind_writer.proofs.Laws.Children.{datas-next}

@@ -3,7 +3,6 @@ use Prim.Native.Nat.{ℕ, ◌+◌}
 use mathlib.Core.Path.{ap, sym, ◌∙◌}
 use mathlib.Core.List.{List}
 use lib.Seq.{sets}
-use borrow.Author.Rules.{rules}
 use Rattle.fields.specs.Text.{text_bytes}
 use Rattle.fields.specs.Numbers.{be_bytes}
 use Rattle.fields.proofs.Laws.Stores.{sets-append}

@@ -1,16 +1,13 @@
-use Prim.Native.Nat.{ℕ, ◌+◌, ◌*◌, ◌-◌, ◌≤◌}
-use mathlib.Core.Path.{◌≡◌, refl, ap, sym, ◌∙◌}
-use mathlib.Core.List.{List, ◌++◌, map}
+use Prim.Native.Nat.{ℕ, ◌+◌, ◌*◌}
+use mathlib.Core.Path.{refl, ap, sym, ◌∙◌}
+use mathlib.Core.List.{List, ◌++◌}
 use native.Mathlib.Omega.{arith}
-use lib.ListN.{length, take, get_or}
+use lib.ListN.{length, get_or}
 use lib.Seq.{sets}
-use borrow.Author.Rules.{rules}
 use Rattle.fields.specs.Numbers.{be_bytes}
 use Rattle.fields.specs.Text.{text_bytes}
-use Rattle.fields.specs.Lists.{flat}
 use Rattle.fields.proofs.Laws.Lists.{flat-none, flat-all}
 use Rattle.bind_writer.specs.BindWriter.{plain_header}
-use Rattle.bind_writer.specs.ChildLists.{WithContents}
 use Rattle.bind_writer.proofs.Laws.Slices.{none, length-given}
 use Rattle.bind_writer.proofs.Laws.Children.{headers-next}
 use Rattle.bind_writer.proofs.put_headers.Goals as goal

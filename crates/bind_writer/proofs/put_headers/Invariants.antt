@@ -1,23 +1,16 @@
 -- `bind_writer::put_headers` meets its contract. The loop's invariant: the headers of the first `i` children are written.
-use Prim.Native.Nat.{ℕ, ◌+◌, ◌*◌, ◌-◌, ◌≤◌}
-use mathlib.Core.Path.{◌≡◌, refl, ap, sym, ◌∙◌}
-use mathlib.Core.List.{List, ◌++◌, map}
-use native.Mathlib.Omega.{arith}
-use lib.ListN.{length, take, get_or}
+use Prim.Native.Nat.{◌-◌, ◌≤◌}
+use mathlib.Core.Path.{◌≡◌}
+use mathlib.Core.List.{map}
+use lib.ListN.{length, take}
 use lib.Seq.{sets}
-use borrow.Author.Rules.{rules}
-use Rattle.fields.specs.Numbers.{be_bytes}
-use Rattle.fields.specs.Text.{text_bytes}
 use Rattle.fields.specs.Lists.{flat}
-use Rattle.fields.proofs.Laws.Lists.{flat-none, flat-all}
 use Rattle.bind_writer.specs.BindWriter.{plain_header}
 use Rattle.bind_writer.specs.ChildLists.{WithContents}
-use Rattle.bind_writer.proofs.Laws.Slices.{none, length-given}
-use Rattle.bind_writer.proofs.Laws.Children.{headers-next}
 use Rattle.bind_writer.proofs.put_headers.Given as goal
 
 abbrev pub invariant-loop-i : goal.invariant-loop-i
-invariant-loop-i l =     (l.i ≤ length l.types)
+invariant-loop-i l = (l.i ≤ length l.types)
     × (length l.out ≡ length l.initial.out)
     × WithContents (map (λ x. x.now) l.types) (map (λ x. x.now) l.contents) (λ cs. l.out ≡ sets l.initial.out 2 (flat plain_header (take l.i cs)))
 

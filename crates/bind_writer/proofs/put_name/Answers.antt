@@ -5,7 +5,6 @@ use mathlib.Core.List.{List, [], ◌∷◌}
 use native.Mathlib.Omega.{arith}
 use lib.ListN.{length}
 use lib.Seq.{sets}
-use borrow.Author.Rules.{rules}
 use Rattle.fields.specs.Numbers.{be_bytes}
 use Rattle.fields.proofs.Laws.Stores.{sets-append}
 use Rattle.bind_writer.proofs.Laws.Encoding.{length-ended}

@@ -1,19 +1,15 @@
 -- `bind_writer::put_names` meets its contract. The loop's invariant: the first `i` names are written, up to place `to`.
-use Prim.Native.Nat.{ℕ, ◌+◌, ◌-◌, ◌≤◌}
-use mathlib.Core.Path.{◌≡◌, refl, ap, ap₂, sym, ◌∙◌}
-use mathlib.Core.List.{List, map}
-use native.Mathlib.Omega.{arith}
-use lib.ListN.{length, take, get_or}
+use Prim.Native.Nat.{◌+◌, ◌-◌, ◌≤◌}
+use mathlib.Core.Path.{◌≡◌}
+use mathlib.Core.List.{map}
+use lib.ListN.{length, take}
 use lib.Seq.{sets}
-use borrow.Author.Rules.{rules}
 use Rattle.fields.specs.Lists.{flat}
-use Rattle.fields.proofs.Laws.Lists.{flat-none}
 use Rattle.bind_layout.specs.Children.{ended}
-use Rattle.bind_writer.proofs.Laws.Slices.{none, slices-all, length-slices-next, length-slices-le, sets-slices-next}
 use Rattle.bind_writer.proofs.put_names.Given as goal
 
 abbrev pub invariant-loop-i : goal.invariant-loop-i
-invariant-loop-i l =     (l.i ≤ length l.names)
+invariant-loop-i l = (l.i ≤ length l.names)
     × (length l.out ≡ length l.initial.out)
     × (l.to ≡ l.at + length (flat ended (take l.i (map (λ x. x.now) l.names))))
     × (l.out ≡ sets l.initial.out l.at (flat ended (take l.i (map (λ x. x.now) l.names))))

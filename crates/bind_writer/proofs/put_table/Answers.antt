@@ -5,7 +5,6 @@ use mathlib.Core.List.{List, map}
 use native.Mathlib.Omega.{arith}
 use lib.ListN.{length, replicate}
 use lib.Seq.{sets}
-use borrow.Author.Rules.{rules}
 use Rattle.fields.specs.Lists.{flat}
 use Rattle.bind_layout.specs.Children.{ended}
 use Rattle.bind_layout.proofs.Laws.Children.{length-padded}

@@ -7,7 +7,6 @@ use native.Mathlib.Omega.{arith}
 use lib.ListN.{length, length-map}
 use lib.Dec.{leb}
 use borrow.Author.Tests.{leb-true, leb-false}
-use borrow.Author.Rules.{rules}
 use Rattle.fields.specs.Lists.{flat}
 use Rattle.fields.specs.Answer.{room_fault}
 use Rattle.fields.proofs.Laws.Answer.{room-enough, room-short}

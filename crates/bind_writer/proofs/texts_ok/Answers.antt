@@ -1,13 +1,6 @@
-use Prim.Native.Nat.{◌-◌, ◌≤◌}
-use mathlib.Core.Path.{◌≡◌, refl, sym, ◌∙◌}
-use mathlib.Core.List.{map}
+use mathlib.Core.Path.{refl, sym, ◌∙◌}
 use native.Mathlib.Omega.{arith}
-use lib.ListN.{length, drop}
-use borrow.Author.Tests.{not-true, not-false}
-use borrow.Author.Rules.{rules}
-use Rattle.fields.specs.Lists.{all_of}
 use Rattle.fields.proofs.Laws.Lists.{all_end}
-use Rattle.bind_writer.specs.ChildLists.{WithNames}
 use Rattle.bind_writer.specs.BindWriter.{texts_ok}
 use Rattle.bind_writer.proofs.Laws.Slices.{length-given}
 use Rattle.bind_writer.proofs.Laws.Children.{texts-next, texts-type, texts-name}

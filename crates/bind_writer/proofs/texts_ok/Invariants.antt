@@ -1,17 +1,11 @@
 -- `bind_writer::texts_ok` meets its contract. The loop's invariant: the test of all children is that of those from place `i` on.
 use Prim.Native.Nat.{◌-◌, ◌≤◌}
-use mathlib.Core.Path.{◌≡◌, refl, sym, ◌∙◌}
+use mathlib.Core.Path.{◌≡◌}
 use mathlib.Core.List.{map}
-use native.Mathlib.Omega.{arith}
 use lib.ListN.{length, drop}
-use borrow.Author.Tests.{not-true, not-false}
-use borrow.Author.Rules.{rules}
 use Rattle.fields.specs.Lists.{all_of}
-use Rattle.fields.proofs.Laws.Lists.{all_end}
 use Rattle.bind_writer.specs.ChildLists.{WithNames}
 use Rattle.bind_writer.specs.BindWriter.{texts_ok}
-use Rattle.bind_writer.proofs.Laws.Slices.{length-given}
-use Rattle.bind_writer.proofs.Laws.Children.{texts-next, texts-type, texts-name}
 use Rattle.bind_writer.proofs.texts_ok.Given as goal
 
 abbrev pub invariant-loop-i : goal.invariant-loop-i

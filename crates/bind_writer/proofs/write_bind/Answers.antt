@@ -3,7 +3,6 @@ use Prim.Native.Nat.{ℕ, ◌≤◌}
 use mathlib.Core.Path.{sym, subst, ◌∙◌}
 use mathlib.Core.List.{map}
 use lib.ListN.{length}
-use borrow.Author.Rules.{rules}
 use Rattle.fields.proofs.Laws.Writers.{refuses, stored}
 use Rattle.bind_writer.specs.BindWriter.{given_fault, bind_bytes}
 use Rattle.bind_writer.specs.ChildLists.{children}

@@ -2,8 +2,6 @@
 use mathlib.Core.Path.{◌≡◌, sym, ◌∙◌}
 use mathlib.Core.Bool.{true}
 use mathlib.Core.List.{map}
-use borrow.Author.Tests.{not-true, not-false}
-use borrow.Author.Rules.{rules}
 use Rattle.bind_writer.specs.ChildLists.{children}
 use Rattle.bind_writer.specs.BindWriter.{lists_ok}
 use Rattle.bind_writer.proofs.Laws.Slices.{count_same}

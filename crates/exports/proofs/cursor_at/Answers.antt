@@ -1,5 +1,4 @@
 -- `exports::cursor_at` meets its contract: nine reads.
-use borrow.Author.Rules.{rules}
 use Rattle.exports.proofs.cursor_at.Goals as goal
 
 pub returns : goal.returns

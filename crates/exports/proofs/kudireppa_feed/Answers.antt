@@ -2,7 +2,6 @@
 use mathlib.Core.Path.{sym, ap, ◌∙◌}
 use lib.ListN.{length}
 use lib.Seq.{sets}
-use borrow.Author.Rules.{rules}
 use Rattle.message.specs.declared.Layout.{Layout}
 use Rattle.feed.specs.Push.{open_of}
 use Rattle.exports.proofs.Laws.{total-opened, buffer-opened, bytes-opened, total-refused, buffer-refused, bytes-refused}

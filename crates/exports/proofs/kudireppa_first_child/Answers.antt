@@ -3,7 +3,6 @@ use mathlib.Core.Path.{ap, ◌∙◌}
 use lib.Seq.{sets}
 use Rattle.bind_cursor.specs.declared.Cursor.{Cursor}
 use Rattle.exports.specs.Exports.{cursor_bytes}
-use borrow.Author.Rules.{rules}
 use Rattle.exports.proofs.kudireppa_first_child.Goals as goal
 
 pub returns : goal.returns

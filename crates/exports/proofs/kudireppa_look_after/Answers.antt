@@ -4,7 +4,6 @@ use lib.Seq.{sets}
 use Rattle.replay.specs.declared.Answered.{Answered}
 use Rattle.exports.specs.Exports.{answered_bytes}
 use Rattle.exports.proofs.Laws.{answered-stored}
-use borrow.Author.Rules.{rules}
 use Rattle.exports.proofs.kudireppa_look_after.Goals as goal
 
 pub returns : goal.returns

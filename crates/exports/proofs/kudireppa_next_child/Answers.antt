@@ -4,7 +4,6 @@ use lib.Seq.{sets}
 use Rattle.bind_cursor.specs.declared.Cursor.{Cursor}
 use Rattle.bind_cursor.specs.Cursor.{next_of}
 use Rattle.exports.specs.Exports.{cursor_bytes}
-use borrow.Author.Rules.{rules}
 use Rattle.exports.proofs.kudireppa_next_child.Goals as goal
 
 pub returns : goal.returns

@@ -3,7 +3,6 @@ use mathlib.Core.Path.{ap, ◌∙◌}
 use Rattle.message.specs.declared.Layout.{Layout}
 use Rattle.message.specs.declared.Answer.{Answer}
 use Rattle.message.specs.MessageReader.{read_of}
-use borrow.Author.Rules.{rules}
 use Rattle.exports.proofs.kudireppa_read.Goals as goal
 
 pub returns : goal.returns

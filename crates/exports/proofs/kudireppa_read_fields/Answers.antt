@@ -5,7 +5,6 @@ use Rattle.message.specs.declared.Layout.{Layout}
 use Rattle.message.specs.declared.Answer.{Answer}
 use Rattle.message.specs.MessageReader.{read_of}
 use Rattle.exports.specs.Exports.{answer_bytes}
-use borrow.Author.Rules.{rules}
 use Rattle.exports.proofs.kudireppa_read_fields.Goals as goal
 
 pub returns : goal.returns

@@ -5,7 +5,6 @@ use Rattle.fields.specs.Answer.{written_number, written_count}
 use Rattle.message.specs.declared.Layout.{Layout}
 use Rattle.message.specs.MessageWriter.{message_written, message_out}
 use Rattle.exports.specs.Exports.{message_given}
-use borrow.Author.Rules.{rules}
 use Rattle.exports.proofs.kudireppa_write.Goals as goal
 
 pub returns : goal.returns

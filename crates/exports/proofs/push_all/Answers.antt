@@ -1,10 +1,7 @@
-use Prim.Native.Nat.{◌≤◌}
-use mathlib.Core.Path.{◌≡◌, refl, ap, sym, ◌∙◌}
+use mathlib.Core.Path.{refl, ap, sym, ◌∙◌}
 use native.Mathlib.Omega.{arith}
 use lib.ListN.{length, length-drop}
-use borrow.Author.Rules.{rules}
 use Rattle.exports.specs.declared.Fed.{Fed}
-use Rattle.exports.specs.Exports.{fed_by}
 use Rattle.feed.proofs.Laws.Pushes.{writes}
 use Rattle.exports.proofs.Laws.{fed-end, fed-next, fed-within}
 use Rattle.exports.proofs.push_all.Goals as goal

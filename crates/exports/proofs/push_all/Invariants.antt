@@ -1,14 +1,9 @@
 -- `exports::push_all` meets its contract. The loop's invariant: the pushes that are left make of the feed and the buffer what all of them
 -- make of those at the start. The measure is the number of bytes that are left of the lengths.
 use Prim.Native.Nat.{◌≤◌}
-use mathlib.Core.Path.{◌≡◌, refl, ap, sym, ◌∙◌}
-use native.Mathlib.Omega.{arith}
-use lib.ListN.{length, length-drop}
-use borrow.Author.Rules.{rules}
-use Rattle.exports.specs.declared.Fed.{Fed}
+use mathlib.Core.Path.{◌≡◌}
+use lib.ListN.{length}
 use Rattle.exports.specs.Exports.{fed_by}
-use Rattle.feed.proofs.Laws.Pushes.{writes}
-use Rattle.exports.proofs.Laws.{fed-end, fed-next, fed-within}
 use Rattle.exports.proofs.push_all.Given as goal
 
 abbrev pub invariant-loop-left : goal.invariant-loop-left

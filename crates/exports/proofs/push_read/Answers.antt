@@ -1,5 +1,4 @@
 -- `exports::push_read` meets its contract, answer by answer.
-use borrow.Author.Rules.{rules}
 use mathlib.Core.Path.{sym, ap, ◌∙◌}
 use Rattle.exports.specs.Exports.{push_read}
 use Rattle.exports.proofs.push_read.Goals as goal

@@ -9,7 +9,6 @@ use Rattle.fields.specs.Layout.{stores, number_fields}
 use Rattle.message.specs.declared.Answer.{Answer}
 use Rattle.exports.specs.Exports.{field_numbers, part_numbers}
 use Rattle.exports.proofs.Laws.{answer-stored}
-use borrow.Author.Rules.{rules}
 use Rattle.exports.proofs.put_answer.Goals as goal
 
 pub returns : goal.returns

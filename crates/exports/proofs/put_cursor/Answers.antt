@@ -1,7 +1,6 @@
 -- `exports::put_cursor` meets its contract: nine stores are one.
 use mathlib.Core.Path.{◌∙◌}
 use Rattle.exports.proofs.Laws.{cursor-stored}
-use borrow.Author.Rules.{rules}
 use Rattle.exports.proofs.put_cursor.Goals as goal
 
 pub returns : goal.returns

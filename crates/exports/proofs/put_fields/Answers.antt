@@ -1,5 +1,4 @@
 -- `exports::put_fields` meets its contract: six stores.
-use borrow.Author.Rules.{rules}
 use Rattle.exports.proofs.put_fields.Goals as goal
 
 pub returns : goal.returns

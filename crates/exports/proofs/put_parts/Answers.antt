@@ -1,5 +1,4 @@
 -- `exports::put_parts` meets its contract: six stores.
-use borrow.Author.Rules.{rules}
 use Rattle.exports.proofs.put_parts.Goals as goal
 
 pub returns : goal.returns

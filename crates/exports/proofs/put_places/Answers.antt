@@ -1,5 +1,4 @@
 -- `exports::put_places` meets its contract: nine stores.
-use borrow.Author.Rules.{rules}
 use Rattle.exports.proofs.put_places.Goals as goal
 
 pub returns : goal.returns

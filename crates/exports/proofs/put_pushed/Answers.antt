@@ -3,7 +3,6 @@ use Prim.Native.Nat.{ℕ}
 use mathlib.Core.Path.{ap, ◌∙◌}
 use mathlib.Core.List.{List}
 use lib.Seq.{sets}
-use borrow.Author.Rules.{rules}
 use Rattle.fields.specs.Numbers.{be_bytes}
 use Rattle.message.specs.declared.Answer.{Answer}
 use Rattle.exports.specs.Exports.{answer_bytes}

@@ -3,7 +3,6 @@ use Prim.Native.Nat.{ℕ}
 use mathlib.Core.Path.{ap, ◌∙◌}
 use lib.ListN.{take}
 use lib.Seq.{sets}
-use borrow.Author.Rules.{rules}
 use Rattle.feed.proofs.fill.Goals as goal
 
 pub returns : goal.returns

@@ -1,6 +1,5 @@
 -- `feed::open_feed` meets its contract: fewer than 58 bytes, or a feed that keeps none.
 use mathlib.Core.Path.{ap, ◌∙◌}
-use borrow.Author.Rules.{rules}
 use Rattle.feed.specs.declared.Feed.{Feed}
 use Rattle.feed.specs.declared.OpenAnswer.TheVariants as opening
 use Rattle.feed.proofs.Laws.Code.{opens_not, opens-so}

@@ -1,6 +1,5 @@
 -- `feed::pass` meets its contract: some of the message is left, or its last byte has passed.
 use mathlib.Core.Path.{sym, ap, ap₂, ◌∙◌}
-use borrow.Author.Rules.{rules}
 use Rattle.message.specs.declared.Answer.{Answer}
 use Rattle.feed.specs.declared.Feed.{Feed}
 use Rattle.feed.specs.declared.PushAnswer.TheVariants.{Nothing, Read}

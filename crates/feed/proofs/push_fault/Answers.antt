@@ -1,6 +1,5 @@
 -- `feed::push_fault` meets its contract: the checks in their order.
 use mathlib.Core.Path.{sym, ◌∙◌}
-use borrow.Author.Rules.{rules}
 use Rattle.feed.proofs.Laws.Pushes.{fault-stopped, fault-other, fault-room}
 use Rattle.feed.proofs.push_fault.Goals as goal
 

@@ -1,6 +1,5 @@
 -- `message::accept` meets its contract: the places lie within the body, so that they fit once 58 is added.
 use native.Mathlib.Omega.{arith}
-use borrow.Author.Rules.{rules}
 use Rattle.message.proofs.accept.Goals as goal
 
 pub overflow_add-result-2 : goal.overflow_add-result-2

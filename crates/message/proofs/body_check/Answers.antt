@@ -2,7 +2,6 @@
 use mathlib.Core.Path.{ap₂, ap, sym, ◌∙◌}
 use mathlib.Core.Bool.{false}
 use native.Mathlib.Omega.{arith}
-use borrow.Author.Rules.{rules}
 use Rattle.fields.specs.Bytes.{part}
 use Rattle.content.specs.ContentCheck.{content_clean, deepest}
 use Rattle.message.specs.declared.body.Places.{Places}

@@ -2,7 +2,6 @@
 use Prim.Native.Nat.{ℕ}
 use mathlib.Core.Bool.{false}
 use mathlib.Core.Path.{ap, sym, ◌∙◌}
-use borrow.Author.Rules.{rules}
 use Rattle.fields.specs.Answer.{checked}
 use Rattle.fields.specs.Checks.{or_else}
 use Rattle.fields.proofs.Laws.Answer.{checked-same}

@@ -1,6 +1,5 @@
 -- `message::contents_fault` meets its contract.
 use mathlib.Core.Path.{ap, ◌∙◌}
-use borrow.Author.Rules.{rules}
 use Rattle.fields.specs.declared.Checked.{Checked}
 use Rattle.fields.proofs.Laws.Answer.{checked-number}
 use Rattle.message.proofs.contents_fault.Goals as goal

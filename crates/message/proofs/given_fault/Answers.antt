@@ -1,7 +1,5 @@
 -- `message::given_fault` meets its contract: the checks in turn.
 use mathlib.Core.Path.{sym, ◌∙◌}
-use borrow.Author.Tests.{not-true, not-false}
-use borrow.Author.Rules.{rules}
 use Rattle.message.specs.MessageWriter.{given}
 use Rattle.message.proofs.Laws.Writer.{write-names, write-limit, write-rest, long-body, short-body}
 use Rattle.message.proofs.given_fault.Goals as goal

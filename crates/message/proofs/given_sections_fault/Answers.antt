@@ -2,8 +2,6 @@
 use Prim.Native.Nat.{ℕ}
 use mathlib.Core.Path.{ap, sym, ◌∙◌}
 use lib.ListN.{length}
-use borrow.Author.Tests.{not-true, not-false}
-use borrow.Author.Rules.{rules}
 use Rattle.message.specs.MessageReader.{sections_fault}
 use Rattle.message.specs.MessageWriter.{sections_given, fits}
 use Rattle.message.proofs.Laws.Writer.{sections-version, sections-unfit, sections-rest}

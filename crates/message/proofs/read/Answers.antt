@@ -1,7 +1,6 @@
 -- `message::read` meets its contract: the reader's steps in turn.
 use mathlib.Core.Path.{◌∙◌}
 use native.Mathlib.Omega.{arith}
-use borrow.Author.Rules.{rules}
 use Rattle.message.proofs.Laws.Read.{says-header, size-limit, says-short, says-body, says-accepted, laid_out}
 use Rattle.message.proofs.read.Goals as goal
 

@@ -1,6 +1,5 @@
 -- `message::write` meets its contract: the law of a writer's answer and buffer where a check refuses, or what the rest of it gives.
 use mathlib.Core.Path.{sym, ◌∙◌}
-use borrow.Author.Rules.{rules}
 use Rattle.message.specs.MessageWriter.{given}
 use Rattle.message.proofs.Laws.Writer.{answers-checks}
 use Rattle.message.proofs.write.Goals as goal

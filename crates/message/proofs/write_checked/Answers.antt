@@ -1,7 +1,6 @@
 -- `message::write_checked` meets its contract: the laws of a writer's answer and buffer: refused by the room, and not refused.
 use mathlib.Core.Path.{sym, ◌∙◌}
 use native.Mathlib.Omega.{arith}
-use borrow.Author.Rules.{rules}
 use Rattle.fields.proofs.Laws.Answer.{room_fits}
 use Rattle.message.specs.MessageWriter.{given}
 use Rattle.message.proofs.Laws.Writer.{writable, length-given, answers-room, answers-written}

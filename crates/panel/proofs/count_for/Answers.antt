@@ -1,5 +1,4 @@
 -- `panel::count_for` meets its contract: a tile that the message is for, and any other.
-use borrow.Author.Tests.{not-true, not-false}
 use Rattle.panel.proofs.count_for.Goals as goal
 
 pub returns-then-not-carries : goal.returns-then-not-carries

@@ -1,11 +1,9 @@
-use Prim.Native.Nat.{◌-◌}
 use mathlib.Core.Path.{refl, ap, ◌∙◌}
 use mathlib.Core.Bool.{Bool, cond, ◌||◌}
 use native.Mathlib.Omega.{arith}
 use lib.ListN.{get_or}
-use borrow.Author.Rules.{rules}
 use Rattle.panel.specs.Tiles.{no_tile, is_tile, counted_tile, counted_for}
-use Rattle.panel.proofs.Laws.Table.{walking-next, walking-done, Walking}
+use Rattle.panel.proofs.Laws.Table.{walking-next, walking-done}
 use Rattle.panel.proofs.count_for_all.Goals as goal
 
 pub loop-i-init : goal.loop-i-init

@@ -1,13 +1,8 @@
 -- `panel::count_for_all` meets its contract. The loop's invariant: the first `i` tiles are changed, and whether the message is for one of
 -- them is known.
 use Prim.Native.Nat.{◌-◌}
-use mathlib.Core.Path.{refl, ap, ◌∙◌}
-use mathlib.Core.Bool.{Bool, cond, ◌||◌}
-use native.Mathlib.Omega.{arith}
-use lib.ListN.{get_or}
-use borrow.Author.Rules.{rules}
-use Rattle.panel.specs.Tiles.{no_tile, is_tile, counted_tile, counted_for}
-use Rattle.panel.proofs.Laws.Table.{walking-next, walking-done, Walking}
+use Rattle.panel.specs.Tiles.{is_tile, counted_for}
+use Rattle.panel.proofs.Laws.Table.{Walking}
 use Rattle.panel.proofs.count_for_all.Given as goal
 
 abbrev pub invariant-loop-i : goal.invariant-loop-i

@@ -1,10 +1,7 @@
-use Prim.Native.Nat.{◌+◌, ◌-◌, ◌≤◌}
-use mathlib.Core.Path.{◌≡◌}
 use native.Mathlib.Omega.{arith}
-use lib.ListN.{get_or, length, drop}
+use lib.ListN.{get_or}
 use borrow.Author.Tests.{not-true, not-false}
-use borrow.Author.Rules.{rules}
-use Rattle.panel.specs.Tiles.{no_tile, free_in}
+use Rattle.panel.specs.Tiles.{no_tile}
 use Rattle.panel.proofs.Laws.Table.{free_step, free-stop, free-end}
 use Rattle.panel.proofs.free_place.Goals as goal
 

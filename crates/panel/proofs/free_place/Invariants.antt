@@ -1,12 +1,8 @@
 -- `panel::free_place` meets its contract. The loop's invariant: the first `i` places are taken.
 use Prim.Native.Nat.{◌+◌, ◌-◌, ◌≤◌}
 use mathlib.Core.Path.{◌≡◌}
-use native.Mathlib.Omega.{arith}
-use lib.ListN.{get_or, length, drop}
-use borrow.Author.Tests.{not-true, not-false}
-use borrow.Author.Rules.{rules}
-use Rattle.panel.specs.Tiles.{no_tile, free_in}
-use Rattle.panel.proofs.Laws.Table.{free_step, free-stop, free-end}
+use lib.ListN.{length, drop}
+use Rattle.panel.specs.Tiles.{free_in}
 use Rattle.panel.proofs.free_place.Given as goal
 
 abbrev pub invariant-loop-i : goal.invariant-loop-i

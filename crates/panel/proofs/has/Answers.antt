@@ -1,9 +1,5 @@
-use Prim.Native.Nat.{◌-◌, ◌≤◌}
-use mathlib.Core.Path.{◌≡◌, refl, sym, ◌∙◌}
+use mathlib.Core.Path.{refl, sym, ◌∙◌}
 use native.Mathlib.Omega.{arith}
-use lib.ListN.{length, drop}
-use borrow.Author.Rules.{rules}
-use Rattle.fields.specs.Lists.{any_of}
 use Rattle.fields.proofs.Laws.Lists.{any_step, any-stop, any-end}
 use Rattle.panel.specs.Tiles.{no_tile, is_tile}
 use Rattle.panel.proofs.has.Goals as goal

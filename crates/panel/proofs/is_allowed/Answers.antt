@@ -1,7 +1,5 @@
 -- `panel::is_allowed` meets its contract: one test after the other.
 use mathlib.Core.Path.{sym, ◌∙◌}
-use borrow.Author.Tests.{not-true, not-false}
-use borrow.Author.Rules.{rules}
 use Rattle.history.specs.Summary.{is_allowed}
 use Rattle.panel.proofs.is_allowed.Goals as goal
 

@@ -1,6 +1,5 @@
 -- `panel::is_pose` meets its contract: one test for each of the two texts.
 use mathlib.Core.Path.{sym, ◌∙◌}
-use borrow.Author.Rules.{rules}
 use Rattle.panel.proofs.is_pose.Goals as goal
 
 pub returns-then-same : goal.returns-then-same

@@ -1,7 +1,6 @@
 -- `panel::is_tile` meets its contract: used, then the type, then the name.
 use mathlib.Core.Path.{sym, ◌∙◌}
 use borrow.Author.Tests.{not-true, not-false}
-use borrow.Author.Rules.{rules}
 use Rattle.panel.proofs.is_tile.Goals as goal
 
 pub returns-then-not-tile : goal.returns-then-not-tile

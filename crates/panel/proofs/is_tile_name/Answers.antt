@@ -1,6 +1,5 @@
 -- `panel::is_tile_name` meets its contract: one test after the other.
 use borrow.Author.Tests.{le-leb, lt-leb}
-use borrow.Author.Rules.{rules}
 use Rattle.panel.proofs.is_tile_name.Goals as goal
 
 pub returns-then-name-lt1 : goal.returns-then-name-lt1

@@ -1,7 +1,6 @@
 -- `panel::judge` meets its contract: the laws of its checks in turn, and of bytes that are read.
 use mathlib.Core.Path.{◌∙◌}
 use borrow.Author.Tests.{not-true, not-false}
-use borrow.Author.Rules.{rules}
 use Rattle.panel.proofs.Laws.Calls.{judged-late, judged-down, judged-read}
 use Rattle.panel.proofs.judge.Goals as goal
 

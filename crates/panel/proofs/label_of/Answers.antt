@@ -1,5 +1,4 @@
 -- `panel::label_of` meets its contract: the two copies.
-use borrow.Author.Rules.{rules}
 use Rattle.panel.proofs.label_of.Goals as goal
 
 pub returns : goal.returns

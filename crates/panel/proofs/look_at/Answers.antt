@@ -1,6 +1,5 @@
 -- `panel::look_at` meets its contract: what is shown, with a value where a message counted.
 use borrow.Author.Tests.{not-true, not-false}
-use borrow.Author.Rules.{rules}
 use Rattle.panel.proofs.look_at.Goals as goal
 
 pub returns-then-not-tile : goal.returns-then-not-tile

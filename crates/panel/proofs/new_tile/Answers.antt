@@ -1,5 +1,4 @@
 -- `panel::new_tile` meets its contract: no value yet.
-use borrow.Author.Rules.{rules}
 use Rattle.panel.proofs.new_tile.Goals as goal
 
 pub returns : goal.returns

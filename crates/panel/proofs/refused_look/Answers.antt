@@ -1,5 +1,4 @@
 -- `panel::refused_look` meets its contract: a refusal carries no value.
-use borrow.Author.Rules.{rules}
 use Rattle.panel.proofs.refused_look.Goals as goal
 
 pub returns : goal.returns

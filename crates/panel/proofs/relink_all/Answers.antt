@@ -1,9 +1,7 @@
-use Prim.Native.Nat.{◌-◌}
 use mathlib.Core.Path.{refl}
 use native.Mathlib.Omega.{arith}
-use borrow.Author.Rules.{rules}
 use Rattle.panel.specs.Tiles.{relinked}
-use Rattle.panel.proofs.Laws.Table.{changing-next, changing-done, Changing}
+use Rattle.panel.proofs.Laws.Table.{changing-next, changing-done}
 use Rattle.panel.proofs.relink_all.Goals as goal
 
 pub loop-i-init : goal.loop-i-init

@@ -1,10 +1,7 @@
 -- `panel::relink_all` meets its contract. The loop's invariant: the first `i` tiles are changed.
 use Prim.Native.Nat.{◌-◌}
-use mathlib.Core.Path.{refl}
-use native.Mathlib.Omega.{arith}
-use borrow.Author.Rules.{rules}
 use Rattle.panel.specs.Tiles.{relinked}
-use Rattle.panel.proofs.Laws.Table.{changing-next, changing-done, Changing}
+use Rattle.panel.proofs.Laws.Table.{Changing}
 use Rattle.panel.proofs.relink_all.Given as goal
 
 abbrev pub invariant-loop-i : goal.invariant-loop-i

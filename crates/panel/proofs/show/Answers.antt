@@ -1,7 +1,6 @@
 -- `panel::show` meets its contract: a case for each colour.
 use mathlib.Core.Path.{sym}
 use borrow.Author.Tests.{le-leb, lt-leb, not-true, not-false}
-use borrow.Author.Rules.{rules}
 use Rattle.panel.proofs.show.Goals as goal
 
 pub returns-then-not-tile : goal.returns-then-not-tile

@@ -1,5 +1,4 @@
 -- `panel::unread` meets its contract: the refusal that stands in.
-use borrow.Author.Rules.{rules}
 use Rattle.panel.proofs.unread.Goals as goal
 
 pub returns : goal.returns

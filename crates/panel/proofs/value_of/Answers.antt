@@ -1,5 +1,4 @@
 -- `panel::value_of` meets its contract: the copy, and the length.
-use borrow.Author.Rules.{rules}
 use Rattle.panel.proofs.value_of.Goals as goal
 
 pub returns : goal.returns

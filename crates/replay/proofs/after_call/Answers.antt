@@ -1,5 +1,4 @@
 -- `replay::after_call` meets its contract: the number 0 is no refusal.
-use borrow.Author.Rules.{rules}
 use Rattle.replay.proofs.Laws.Replay.{accepted-handed-on, refused-handed-on}
 use Rattle.replay.proofs.after_call.Goals as goal
 

@@ -1,5 +1,4 @@
 -- `replay::after_look` meets its contract: a case for each answer.
-use borrow.Author.Rules.{rules}
 use Rattle.replay.proofs.Laws.Replay.{look-handed-on}
 use Rattle.replay.proofs.after_look.Goals as goal
 

@@ -1,9 +1,5 @@
-use mathlib.Core.Path.{◌≡◌, sym, ◌∙◌}
+use mathlib.Core.Path.{sym, ◌∙◌}
 use native.Mathlib.Omega.{arith}
-use lib.ListN.{length}
-use borrow.Author.Rules.{rules}
-use Rattle.replay.specs.Script.{calls_in}
-use Rattle.replay.specs.Replay.{answer_among, answer_at}
 use Rattle.replay.proofs.Laws.Script.{left_less}
 use Rattle.replay.proofs.Laws.Replay.{answers_at, answer-start, answer-here, answer-next, answer-end}
 use Rattle.replay.proofs.answer_at.Goals as goal

@@ -1,12 +1,8 @@
 -- `replay::answer_at` meets its contract: the loop keeps the answer among the calls left, and shortens what is left; then `Demand3`.
-use mathlib.Core.Path.{◌≡◌, sym, ◌∙◌}
-use native.Mathlib.Omega.{arith}
+use mathlib.Core.Path.{◌≡◌}
 use lib.ListN.{length}
-use borrow.Author.Rules.{rules}
 use Rattle.replay.specs.Script.{calls_in}
 use Rattle.replay.specs.Replay.{answer_among, answer_at}
-use Rattle.replay.proofs.Laws.Script.{left_less}
-use Rattle.replay.proofs.Laws.Replay.{answers_at, answer-start, answer-here, answer-next, answer-end}
 use Rattle.replay.proofs.answer_at.Given as goal
 
 abbrev pub invariant-loop-left : goal.invariant-loop-left

@@ -1,7 +1,6 @@
 -- `replay::first_part` meets its contract: a part of the length that the script gives.
 use Prim.Native.Nat.{ℕ}
 use mathlib.Core.Path.{ap, ◌∙◌}
-use borrow.Author.Rules.{rules}
 use Rattle.fields.specs.Bytes.{part}
 use Rattle.replay.proofs.first_part.Goals as goal
 

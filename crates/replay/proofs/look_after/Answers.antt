@@ -1,5 +1,4 @@
 -- `replay::look_after` meets its contract: a look on the panel after the calls; then `Demand3`.
-use borrow.Author.Rules.{rules}
 use Rattle.replay.proofs.Laws.Replay.{look-shown, shows-after}
 use Rattle.replay.proofs.look_after.Goals as goal
 

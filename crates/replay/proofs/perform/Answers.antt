@@ -1,6 +1,5 @@
 -- `replay::perform` meets its contract: a case for each call, by its byte.
 use mathlib.Core.Path.{ap, ◌∙◌}
-use borrow.Author.Rules.{rules}
 use Rattle.message.specs.LayoutNumber.{layout_of}
 use Rattle.panel.specs.Answers.{of_add, of_call, of_look}
 use Rattle.replay.proofs.Laws.Script.{call-add, call_up, call-down, call-message, call-look}

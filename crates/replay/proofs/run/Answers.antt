@@ -1,10 +1,6 @@
-use mathlib.Core.Path.{◌≡◌, sym, ◌∙◌}
-use lib.ListN.{length}
-use borrow.Author.Rules.{rules}
-use Rattle.panel.specs.Demand3.{panel_after}
-use Rattle.replay.specs.Script.{calls_in}
+use mathlib.Core.Path.{sym, ◌∙◌}
 use Rattle.replay.proofs.Laws.Script.{left_less}
-use Rattle.replay.proofs.Laws.Replay.{ran_on, run-start, run-next, run_end}
+use Rattle.replay.proofs.Laws.Replay.{run-start, run-next, run_end}
 use Rattle.replay.proofs.run.Goals as goal
 
 pub loop-left-init : goal.loop-left-init

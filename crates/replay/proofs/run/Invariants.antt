@@ -1,11 +1,9 @@
 -- `replay::run` meets its contract: the loop keeps the panel that the calls left give, and shortens what is left.
-use mathlib.Core.Path.{◌≡◌, sym, ◌∙◌}
+use mathlib.Core.Path.{◌≡◌}
 use lib.ListN.{length}
-use borrow.Author.Rules.{rules}
 use Rattle.panel.specs.Demand3.{panel_after}
 use Rattle.replay.specs.Script.{calls_in}
-use Rattle.replay.proofs.Laws.Script.{left_less}
-use Rattle.replay.proofs.Laws.Replay.{ran_on, run-start, run-next, run_end}
+use Rattle.replay.proofs.Laws.Replay.{ran_on}
 use Rattle.replay.proofs.run.Given as goal
 
 abbrev pub invariant-loop-left : goal.invariant-loop-left

@@ -1,7 +1,6 @@
 -- `replay::second_part` meets its contract: a part of the length that the script gives, after the first one.
 use Prim.Native.Nat.{ℕ, ◌+◌}
 use mathlib.Core.Path.{ap₂, ◌∙◌}
-use borrow.Author.Rules.{rules}
 use Rattle.fields.specs.Bytes.{part}
 use Rattle.replay.proofs.second_part.Goals as goal
 

@@ -1,7 +1,6 @@
 -- `feed::Feed::push` meets its contract: it is refused, or a message is passed over, or the fragment goes behind the bytes kept.
 use mathlib.Core.Path.{sym, ◌∙◌}
 use native.Mathlib.Omega.{arith}
-use borrow.Author.Rules.{rules}
 use Rattle.feed.proofs.Laws.Pushes.{room-large}
 use Rattle.feed.proofs.Laws.Code.{push-refuses, push-passes, push-keeps}
 use Rattle.feed.proofs.Feed.push.Goals as goal

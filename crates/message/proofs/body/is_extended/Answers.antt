@@ -4,8 +4,6 @@ use mathlib.Core.Path.{ap₂, sym, ◌∙◌}
 use native.Mathlib.Omega.{arith}
 use lib.Dec.{leb}
 use lib.ListN.{length}
-use borrow.Author.Tests.{not-true, not-false}
-use borrow.Author.Rules.{rules}
 use Rattle.fields.specs.Bytes.{Bytes}
 use Rattle.fields.proofs.Laws.Tests.{true-false}
 use Rattle.fields.proofs.Laws.Numbers.{be_at-lt}

@@ -1,7 +1,6 @@
 -- `message::body::is_fit` meets its contract: the tests of each version in turn.
 use mathlib.Core.Path.{sym, ◌∙◌}
 use native.Mathlib.Omega.{arith}
-use borrow.Author.Rules.{rules}
 use Rattle.message.proofs.Laws.Writer.{fits-long, fits-rest, fits-id, fits-further, fits-none}
 use Rattle.message.proofs.body.is_fit.Goals as goal
 

@@ -4,7 +4,6 @@ use mathlib.Core.Path.{ap, sym, ◌∙◌, subst}
 use native.Mathlib.Omega.{arith}
 use lib.ListN.{length}
 use lib.Seq.{sets}
-use borrow.Author.Rules.{rules}
 use Rattle.content.specs.ContentCheck.{deepest}
 use Rattle.cleaning.specs.CleanBytes.{clean_bytes}
 use Rattle.cleaning.proofs.Laws.CleaningWalk.{put-fits}

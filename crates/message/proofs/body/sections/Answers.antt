@@ -3,7 +3,6 @@ use Prim.Native.Nat.{ℕ, ◌+◌, ◌-◌}
 use mathlib.Core.Path.{ap₂, ap, sym, ◌∙◌}
 use native.Mathlib.Omega.{arith}
 use lib.ListN.{length}
-use borrow.Author.Rules.{rules}
 use Rattle.message.proofs.Laws.Layout.{section-lt}
 use Rattle.message.proofs.Laws.Body.{places-1, places-2}
 use Rattle.message.proofs.body.sections.Goals as goal

@@ -1,6 +1,5 @@
 -- `message::body::sizes_fault` meets its contract: the fault of each version.
 use mathlib.Core.Path.{sym, ◌∙◌}
-use borrow.Author.Rules.{rules}
 use Rattle.message.proofs.Laws.Body.{sizes-1, sizes-2}
 use Rattle.message.proofs.body.sizes_fault.Goals as goal
 

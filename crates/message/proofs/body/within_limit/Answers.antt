@@ -4,7 +4,6 @@ use mathlib.Core.Path.{ap, sym, ◌∙◌}
 use native.Mathlib.Omega.{arith}
 use lib.Dec.{leb}
 use borrow.Author.Tests.{le-leb, lt-leb}
-use borrow.Author.Rules.{rules}
 use Rattle.header.specs.Header.{body_limit}
 use Rattle.message.specs.MessageWriter.{body_length}
 use Rattle.message.proofs.Laws.Writer.{content-long, long-1, long-2}

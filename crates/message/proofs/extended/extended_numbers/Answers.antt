@@ -1,7 +1,6 @@
 -- `message::extended::extended_numbers` meets its contract: a case for each layout; the sizes fit, as is required.
 use mathlib.Core.Path.{ap, sym, subst}
 use native.Mathlib.Omega.{arith}
-use borrow.Author.Rules.{rules}
 use Rattle.message.specs.declared.Layout.{Layout}
 use Rattle.message.specs.Body.{extended_numbers, MetadataFits}
 use Rattle.message.proofs.extended.extended_numbers.Goals as goal

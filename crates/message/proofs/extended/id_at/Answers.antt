@@ -1,6 +1,5 @@
 -- `message::extended::id_at` meets its contract: a case for each layout.
 use mathlib.Core.Path.{ap, sym, ◌∙◌}
-use borrow.Author.Rules.{rules}
 use Rattle.message.specs.declared.Layout.{Layout}
 use Rattle.message.specs.MessageReader.{id_at}
 use Rattle.message.proofs.extended.id_at.Goals as goal

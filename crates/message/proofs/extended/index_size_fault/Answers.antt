@@ -2,7 +2,6 @@
 use mathlib.Core.Path.{ap, sym, ◌∙◌}
 use mathlib.Core.Bool.{Bool, cond}
 use borrow.Author.Tests.{eq-eqb, ne_eqb}
-use borrow.Author.Rules.{rules}
 use Rattle.message.specs.declared.Layout.{Layout}
 use Rattle.metadata.specs.MetadataCheck.{index_size_in}
 use Rattle.message.specs.MessageReader.{index_at, index_size_fault}

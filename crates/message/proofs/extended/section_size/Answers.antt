@@ -1,7 +1,6 @@
 -- `message::extended::section_size` meets its contract: a case for each layout.
 use Prim.Native.Nat.{ℕ, ◌+◌}
 use mathlib.Core.Path.{ap₂, ap, sym, ◌∙◌}
-use borrow.Author.Rules.{rules}
 use Rattle.message.specs.declared.Layout.{Layout}
 use Rattle.message.specs.MessageReader.{section_size}
 use Rattle.message.proofs.extended.section_size.Goals as goal

@@ -1,6 +1,5 @@
 -- `message::extended::size_fits` meets its contract: a case for each layout.
 use mathlib.Core.Path.{ap, sym}
-use borrow.Author.Rules.{rules}
 use Rattle.message.specs.declared.Layout.{Layout}
 use Rattle.message.specs.MessageWriter.{size_fits}
 use Rattle.message.proofs.extended.size_fits.Goals as goal

@@ -1,7 +1,5 @@
 -- `panel::Panel::add` meets its contract: the laws of its checks in turn, and of a tile that enters.
 use mathlib.Core.Path.{ap, sym, ◌∙◌}
-use borrow.Author.Tests.{not-true, not-false}
-use borrow.Author.Rules.{rules}
 use Rattle.panel.proofs.Laws.Calls.{add_words, add-barred, add-taken, add-full, add_done}
 use Rattle.panel.proofs.Panel.add.Goals as goal
 

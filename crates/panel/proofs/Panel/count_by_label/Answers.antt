@@ -1,7 +1,6 @@
 -- `panel::Panel::count_by_label` meets its contract: the laws of a pose that no tile is for, and of one that counts.
 use mathlib.Core.Path.{sym, ap, ap₂, ◌∙◌}
 use borrow.Author.Tests.{not-true, not-false}
-use borrow.Author.Rules.{rules}
 use Rattle.panel.specs.declared.Counted.{Counted}
 use Rattle.panel.specs.Tiles.{label_of, value_of}
 use Rattle.panel.proofs.Laws.Calls.{label-unknown, label-done}

@@ -1,6 +1,5 @@
 -- `panel::Panel::link_down` meets its contract: what the call that it makes gives.
 use mathlib.Core.Path.{ap}
-use borrow.Author.Rules.{rules}
 use Rattle.panel.proofs.Laws.Calls.{call_words}
 use Rattle.panel.proofs.Panel.link_down.Goals as goal
 

@@ -2,7 +2,6 @@
 use mathlib.Core.Path.{ap, ◌∙◌}
 use lib.ListN.{get_or}
 use borrow.Author.Tests.{not-true, not-false}
-use borrow.Author.Rules.{rules}
 use Rattle.panel.specs.Tiles.{no_tile}
 use Rattle.panel.proofs.Laws.Calls.{look_words, look-past, look-free, look-late, look-done}
 use Rattle.panel.proofs.Panel.look.Goals as goal

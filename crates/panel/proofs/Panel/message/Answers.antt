@@ -1,6 +1,5 @@
 -- `panel::Panel::message` meets its contract: the laws of a message that is refused as it is judged, and of one that is not.
 use mathlib.Core.Path.{ap, ◌∙◌}
-use borrow.Author.Rules.{rules}
 use Rattle.panel.proofs.Laws.Calls.{call_words, message-judged, message-counted}
 use Rattle.panel.proofs.Panel.message.Goals as goal
 

@@ -1,5 +1,4 @@
 -- `panel::Panel::new` meets its contract: sixteen free tiles.
-use borrow.Author.Rules.{rules}
 use Rattle.panel.proofs.Panel.new.Goals as goal
 
 pub returns : goal.returns

@@ -1,6 +1,5 @@
 -- `panel::Panel::set_link` meets its contract: the laws of a clock that is behind, and of a link call that is accepted.
 use mathlib.Core.Path.{◌∙◌}
-use borrow.Author.Rules.{rules}
 use Rattle.panel.proofs.Laws.Calls.{link-late, link-done}
 use Rattle.panel.proofs.Panel.set_link.Goals as goal
 
