@@ -5,62 +5,63 @@
 //   Q length, patches   for a stream of so many zeros, patched: the number and the step, the places of the content and the metadata, the
 //                       mark
 use message::{Answer, Layout};
+use std::io;
 use vector_records::{print_bytes, print_crc, print_mark, print_number};
 
-fn print_front(answer: Answer) {
-    print_number(answer.number as u64);
-    print_number(answer.step as u64);
+fn print_front(rt: &impl Print, answer: Answer) -> io::Result<()> {
+    print_number(rt, answer.number as u64)?;
+    print_number(rt, answer.step as u64)
 }
 
-fn print_fields(answer: Answer) {
-    print_number(answer.version as u64);
-    print_number(answer.type_len as u64);
-    print_number(answer.name_len as u64);
-    print_number(answer.time_stamp);
-    print_number(answer.id as u64);
-    print_number(answer.further_at as u64);
-    print_number(answer.further_len as u64);
+fn print_fields(rt: &impl Print, answer: Answer) -> io::Result<()> {
+    print_number(rt, answer.version as u64)?;
+    print_number(rt, answer.type_len as u64)?;
+    print_number(rt, answer.name_len as u64)?;
+    print_number(rt, answer.time_stamp)?;
+    print_number(rt, answer.id as u64)?;
+    print_number(rt, answer.further_at as u64)?;
+    print_number(rt, answer.further_len as u64)
 }
 
-fn print_places(answer: Answer) {
-    print_number(answer.content_at as u64);
-    print_number(answer.content_len as u64);
-    print_number(answer.metadata_at as u64);
-    print_number(answer.metadata_len as u64);
-    print_mark(answer.clean);
+fn print_places(rt: &impl Print, answer: Answer) -> io::Result<()> {
+    print_number(rt, answer.content_at as u64)?;
+    print_number(rt, answer.content_len as u64)?;
+    print_number(rt, answer.metadata_at as u64)?;
+    print_number(rt, answer.metadata_len as u64)?;
+    print_mark(rt, answer.clean)
 }
 
-fn print_parts(stream: &[u8], answer: Answer) {
-    print_bytes(message::type_text(stream, answer));
-    print_bytes(message::device_name(stream, answer));
-    print_bytes(message::further(stream, answer));
-    print_bytes(message::metadata(stream, answer));
-    print_crc(crc64::crc64(message::content(stream, answer)));
+fn print_parts(rt: &impl Print, stream: &[u8], answer: Answer) -> io::Result<()> {
+    print_bytes(rt, message::type_text(stream, answer))?;
+    print_bytes(rt, message::device_name(stream, answer))?;
+    print_bytes(rt, message::further(stream, answer))?;
+    print_bytes(rt, message::metadata(stream, answer))?;
+    print_crc(rt, crc64::crc64(message::content(stream, answer)))
 }
 
-fn print_read(layout: Layout, stream: &[u8]) {
+fn print_read(rt: &impl Print, layout: Layout, stream: &[u8]) -> io::Result<()> {
     let answer = message::read(layout, stream);
-    print_front(answer);
-    print_fields(answer);
-    print_places(answer);
-    print_parts(stream, answer);
+    print_front(rt, answer)?;
+    print_fields(rt, answer)?;
+    print_places(rt, answer)?;
+    print_parts(rt, stream, answer)
 }
 
-pub fn print_message(stream: &[u8]) {
-    print_read(Layout::New, stream);
-    print_read(Layout::Old, stream);
+pub fn print_message(rt: &impl Print, stream: &[u8]) -> io::Result<()> {
+    print_read(rt, Layout::New, stream)?;
+    print_read(rt, Layout::Old, stream)
 }
 
-fn print_sections(layout: Layout, stream: &[u8]) {
+fn print_sections(rt: &impl Print, layout: Layout, stream: &[u8]) -> io::Result<()> {
     let answer = message::read(layout, stream);
-    print_front(answer);
-    print_places(answer);
+    print_front(rt, answer)?;
+    print_places(rt, answer)
 }
 
-pub fn print_patched(length: &[u8], patches: &[u8]) {
+pub fn print_patched(rt: &impl Print, length: &[u8], patches: &[u8]) -> io::Result<()> {
     let mut zeros = vector_records::buffer(0);
     vector_records::patch(patches, &mut zeros);
     let stream = fields::slice::first(&zeros, fields::number::be32(length, 0) as usize);
-    print_sections(Layout::New, stream);
-    print_sections(Layout::Old, stream);
+    print_sections(rt, Layout::New, stream)?;
+    print_sections(rt, Layout::Old, stream)
 }

@@ -1,14 +1,15 @@
 // What the look-up of a metadata section answers:
 //
 //   D section, key   the section's number; the look-up's number, the encoding and the place of the key's value; the value
+use std::io;
 use vector_records::{print_bytes, print_number};
 
-pub fn print_value(section: &[u8], key: &[u8]) {
+pub fn print_value(rt: &impl Print, section: &[u8], key: &[u8]) -> io::Result<()> {
     let place = metadata::value_place(section, key);
-    print_number(metadata::metadata_fault(section) as u64);
-    print_number(metadata::value_fault(section, key) as u64);
-    print_number(metadata::value_encoding(section, key) as u64);
-    print_number(place.at as u64);
-    print_number(place.len as u64);
-    print_bytes(metadata::value(section, key));
+    print_number(rt, metadata::metadata_fault(section) as u64)?;
+    print_number(rt, metadata::value_fault(section, key) as u64)?;
+    print_number(rt, metadata::value_encoding(section, key) as u64)?;
+    print_number(rt, place.at as u64)?;
+    print_number(rt, place.len as u64)?;
+    print_bytes(rt, metadata::value(section, key))
 }

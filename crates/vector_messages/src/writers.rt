@@ -13,7 +13,8 @@ use fields::Written;
 use fields::number::{be8, be16, be32, be64};
 use header::HeaderFields;
 use message::{FixedFields, Layout};
-use vector_records::{after_field, field, print_bytes, print_crc, print_written};
+use std::io;
+use vector_records::{after_field, field, print_bytes, print_crc, print_written, room};
 
 fn header_fields(s: &[u8]) -> HeaderFields {
     HeaderFields {
@@ -105,45 +106,55 @@ fn write_zeros(layout: Layout, given: &[u8], out: &mut [u8]) -> Written {
     )
 }
 
-fn print_header_out(given: &[u8], out: &mut [u8]) {
-    print_written(write_header(given, &mut *out));
-    print_bytes(out);
+fn print_header_out(rt: &impl Print, given: &[u8], out: &mut [u8]) -> io::Result<()> {
+    print_written(rt, write_header(given, &mut *out))?;
+    print_bytes(rt, out)
 }
 
-pub fn print_header(out: &[u8], given: &[u8]) {
+pub fn print_header(rt: &impl Print, out: &[u8], given: &[u8]) -> io::Result<()> {
     let mut buffer = [be8(out, 4); 4096];
-    let n = io::count(be32(out, 0) as isize, &buffer);
-    print_header_out(given, &mut buffer[..n]);
+    let n = room(out, &buffer);
+    print_header_out(rt, given, &mut buffer[..n])
 }
 
-fn print_message_out(layout: Layout, given: &[u8], out: &mut [u8]) {
-    print_written(write_message(layout, given, &mut *out));
-    print_bytes(out);
+fn print_message_out(
+    rt: &impl Print,
+    layout: Layout,
+    given: &[u8],
+    out: &mut [u8],
+) -> io::Result<()> {
+    print_written(rt, write_message(layout, given, &mut *out))?;
+    print_bytes(rt, out)
 }
 
-fn print_message_in(layout: Layout, out: &[u8], given: &[u8]) {
+fn print_message_in(rt: &impl Print, layout: Layout, out: &[u8], given: &[u8]) -> io::Result<()> {
     let mut buffer = [be8(out, 4); 4096];
-    let n = io::count(be32(out, 0) as isize, &buffer);
-    print_message_out(layout, given, &mut buffer[..n]);
+    let n = room(out, &buffer);
+    print_message_out(rt, layout, given, &mut buffer[..n])
 }
 
-pub fn print_message(out: &[u8], given: &[u8]) {
-    print_message_in(Layout::New, out, given);
-    print_message_in(Layout::Old, out, given);
+pub fn print_message(rt: &impl Print, out: &[u8], given: &[u8]) -> io::Result<()> {
+    print_message_in(rt, Layout::New, out, given)?;
+    print_message_in(rt, Layout::Old, out, given)
 }
 
-fn print_zeros_out(layout: Layout, given: &[u8], out: &mut [u8]) {
-    print_written(write_zeros(layout, given, &mut *out));
-    print_crc(crc64::crc64(out));
+fn print_zeros_out(
+    rt: &impl Print,
+    layout: Layout,
+    given: &[u8],
+    out: &mut [u8],
+) -> io::Result<()> {
+    print_written(rt, write_zeros(layout, given, &mut *out))?;
+    print_crc(rt, crc64::crc64(out))
 }
 
-fn print_zeros_in(layout: Layout, out: &[u8], given: &[u8]) {
+fn print_zeros_in(rt: &impl Print, layout: Layout, out: &[u8], given: &[u8]) -> io::Result<()> {
     let mut buffer = vector_records::buffer(be8(out, 4));
-    let n = io::count(be32(out, 0) as isize, &buffer);
-    print_zeros_out(layout, given, &mut buffer[..n]);
+    let n = room(out, &buffer);
+    print_zeros_out(rt, layout, given, &mut buffer[..n])
 }
 
-pub fn print_zeros(out: &[u8], given: &[u8]) {
-    print_zeros_in(Layout::New, out, given);
-    print_zeros_in(Layout::Old, out, given);
+pub fn print_zeros(rt: &impl Print, out: &[u8], given: &[u8]) -> io::Result<()> {
+    print_zeros_in(rt, Layout::New, out, given)?;
+    print_zeros_in(rt, Layout::Old, out, given)
 }

@@ -1,11 +1,14 @@
-// What the vector programs read and write: the records of an input, and the words of a line. A record is a length of
+// What the programs read and write: an input, the records of one, and the words of a line. A record is a length of
 // two bytes, big endian, and then that many bytes; so is each field of a record.
-ghost use Rattle.std.specs.Prelude.{◌≡◌, ◌+◌, length, replicate};
+#![tactic(auto)]
+
+ghost use Rattle.std.specs.Prelude.{◌≡◌, ◌+◌, ◌≤◌, IfOk, length, min, replicate};
 ghost use Rattle.fields.specs.Numbers.{be_at};
 ghost use Rattle.vector_records.specs.Records.{field_of, after_field, is_whole, patched};
 
 use fields::Written;
-use libc::STDOUT_FILENO;
+use std::io;
+use std::io::Read;
 
 // Where the field at the front ends.
 fn end(s: &[u8]) -> usize
@@ -52,6 +55,15 @@ pub fn long_buffer(fill: u8) -> [u8; 2097152]
     [fill; 2097152]
 }
 
+// How much of a buffer a record asks for, in the four bytes at the front: all of it where they ask for more.
+pub fn room(wanted: &[u8], buffer: &[u8]) -> usize
+    ensures in_bounds { result ≤ length buffer.now }
+    ensures value { result ≡ min (be_at 4 0 wanted.now) (length buffer.now) }
+{
+    let n = fields::number::be32(wanted, 0) as usize;
+    if n < buffer.len() { n } else { buffer.len() }
+}
+
 // Stores two bytes at each of some places: patches are runs of six bytes, the place in four and what is stored in two.
 pub fn patch(patches: &[u8], out: &mut [u8])
     ensures { out.new ≡ patched patches.now out.old }
@@ -65,69 +77,79 @@ pub fn patch(patches: &[u8], out: &mut [u8])
     }
 }
 
+// Reads until the buffer is full or the input ends, and gives how many bytes stand at the buffer's front. Only a read that fails is an error.
+pub fn read_full<R: Read>(reader: &mut R, buffer: &mut [u8]) -> io::Result<usize>
+    ensures { IfOk result (λ n. n ≤ length buffer.new) }
+{
+    let mut done = 0;
+    while done < buffer.len() {
+        let n = reader.read(&mut buffer[done..])?;
+        if n == 0 {
+            break;
+        }
+        done += n;
+    }
+    Ok(done)
+}
+
 // The first word of a line: the letter of the record's kind.
-pub fn print_kind(kind: u8) {
+pub fn print_kind(rt: &impl Print, kind: u8) -> io::Result<()> {
     let letter = [kind; 1];
-    io::write_all(STDOUT_FILENO, &letter);
+    rt.write_all(&letter)
 }
 
 // Each further word comes after a space. A number is in decimal digits.
-pub fn print_number(n: u64) {
-    io::write_all(STDOUT_FILENO, b" ");
-    io::print_decimal(STDOUT_FILENO, n);
+pub fn print_number(rt: &impl Print, n: u64) -> io::Result<()> {
+    print!(rt; " {n}")
 }
 
 // A word of 32 bits, as 8 hexadecimal digits.
-pub fn print_word(word: u32) {
-    io::write_all(STDOUT_FILENO, b" ");
-    io::print_hex(STDOUT_FILENO, word as u64, 8);
+pub fn print_word(rt: &impl Print, word: u32) -> io::Result<()> {
+    print!(rt; " {word:08x}")
 }
 
 // A CRC, as 16 hexadecimal digits.
-pub fn print_crc(crc: u64) {
-    io::write_all(STDOUT_FILENO, b" ");
-    io::print_hex(STDOUT_FILENO, crc, 16);
+pub fn print_crc(rt: &impl Print, crc: u64) -> io::Result<()> {
+    print!(rt; " {crc:016x}")
 }
 
 // A mark, 1 where it is true and 0 where it is not.
-pub fn print_mark(mark: bool) {
+pub fn print_mark(rt: &impl Print, mark: bool) -> io::Result<()> {
     if mark {
-        print_number(1);
-        return;
+        return print_number(rt, 1);
     }
-    print_number(0);
+    print_number(rt, 0)
 }
 
 // The answer of a writer: its number, and how many bytes it wrote.
-pub fn print_written(written: Written) {
-    print_number(written.number() as u64);
-    print_number(written.count() as u64);
+pub fn print_written(rt: &impl Print, written: Written) -> io::Result<()> {
+    print_number(rt, written.number() as u64)?;
+    print_number(rt, written.count() as u64)
 }
 
 // Bytes, as two hexadecimal digits each; a dash where there are none.
-pub fn print_bytes(s: &[u8]) {
-    io::write_all(STDOUT_FILENO, b" ");
+pub fn print_bytes(rt: &impl Print, s: &[u8]) -> io::Result<()> {
+    print!(rt; " ")?;
     if s.len() == 0 {
-        io::write_all(STDOUT_FILENO, b"-");
+        print!(rt; "-")?;
     }
-    print_digits(s);
+    print_digits(rt, s)
 }
 
 // Eight bytes at a time are a number.
-fn print_digits(s: &[u8]) {
+fn print_digits(rt: &impl Print, s: &[u8]) -> io::Result<()> {
     let mut left = s;
     while 0 < left.len() {
         let front = fields::slice::first(left, 8);
-        io::print_hex(
-            STDOUT_FILENO,
-            fields::number::be64(front, 0),
-            2 * front.len(),
-        );
+        let number = fields::number::be64(front, 0);
+        let digits = 2 * front.len();
+        print!(rt; "{number:0digits$x}")?;
         let next = fields::slice::rest(left, 8);
         left = next;
     }
+    Ok(())
 }
 
-pub fn end_line() {
-    io::write_all(STDOUT_FILENO, b"\n");
+pub fn end_line(rt: &impl Print) -> io::Result<()> {
+    println!(rt; "")
 }
