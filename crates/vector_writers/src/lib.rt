@@ -9,11 +9,14 @@
 //   m out, count                    a BIND of so many children that hold nothing
 //
 // For n and m, whose buffers are long, the CRC of the buffer stands for it.
+#![tactic(auto)]
+
 use fields::Written;
 use fields::number::{be8, be16, be32, halves3, words3};
 use image::ImageHeader;
 use pose::Transform;
-use vector_records::{after_field, field, print_bytes, print_crc, print_written};
+use std::io;
+use vector_records::{after_field, field, print_bytes, print_crc, print_written, room};
 
 fn write_transform(given: &[u8], out: &mut [u8]) -> Written {
     let s = field(given);
@@ -144,15 +147,15 @@ fn write_short(kind: u8, given: &[u8], out: &mut [u8]) -> Written {
     }
 }
 
-fn print_out(kind: u8, given: &[u8], out: &mut [u8]) {
-    print_written(write_short(kind, given, &mut *out));
-    print_bytes(out);
+fn print_out(rt: &impl Print, kind: u8, given: &[u8], out: &mut [u8]) -> io::Result<()> {
+    print_written(rt, write_short(kind, given, &mut *out))?;
+    print_bytes(rt, out)
 }
 
-pub fn print_short(kind: u8, out: &[u8], given: &[u8]) {
+pub fn print_short(rt: &impl Print, kind: u8, out: &[u8], given: &[u8]) -> io::Result<()> {
     let mut buffer = [be8(out, 4); 4096];
-    let n = io::count(be32(out, 0) as isize, &buffer);
-    print_out(kind, given, &mut buffer[..n]);
+    let n = room(out, &buffer);
+    print_out(rt, kind, given, &mut buffer[..n])
 }
 
 fn write_long(kind: u8, given: &[u8], out: &mut [u8]) -> Written {
@@ -162,13 +165,13 @@ fn write_long(kind: u8, given: &[u8], out: &mut [u8]) -> Written {
     }
 }
 
-fn print_out_crc(kind: u8, given: &[u8], out: &mut [u8]) {
-    print_written(write_long(kind, given, &mut *out));
-    print_crc(crc64::crc64(out));
+fn print_out_crc(rt: &impl Print, kind: u8, given: &[u8], out: &mut [u8]) -> io::Result<()> {
+    print_written(rt, write_long(kind, given, &mut *out))?;
+    print_crc(rt, crc64::crc64(out))
 }
 
-pub fn print_long(kind: u8, out: &[u8], given: &[u8]) {
+pub fn print_long(rt: &impl Print, kind: u8, out: &[u8], given: &[u8]) -> io::Result<()> {
     let mut buffer = vector_records::buffer(be8(out, 4));
-    let n = io::count(be32(out, 0) as isize, &buffer);
-    print_out_crc(kind, given, &mut buffer[..n]);
+    let n = room(out, &buffer);
+    print_out_crc(rt, kind, given, &mut buffer[..n])
 }
