@@ -58,6 +58,7 @@ fn print_sections(rt: &impl Print, layout: Layout, stream: &[u8]) -> io::Result<
     print_places(rt, answer)
 }
 
+#[inline(never)]
 pub fn print_patched(rt: &impl Print, length: &[u8], patches: &[u8]) -> io::Result<()> {
     let mut zeros = vector_records::buffer(0);
     vector_records::patch(patches, &mut zeros);

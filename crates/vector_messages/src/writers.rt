@@ -89,6 +89,7 @@ fn zeros_given<'a>(zeros: &'a [u8], given: &[u8]) -> &'a [u8] {
 }
 
 // The sections are zeros, the metadata patched.
+#[inline(never)]
 fn write_zeros(layout: Layout, given: &[u8], out: &mut [u8]) -> Written {
     let further = after_texts(given);
     let content = after_field(further);
@@ -148,6 +149,7 @@ fn print_zeros_out(
     print_crc(rt, crc64::crc64(out))
 }
 
+#[inline(never)]
 fn print_zeros_in(rt: &impl Print, layout: Layout, out: &[u8], given: &[u8]) -> io::Result<()> {
     let mut buffer = vector_records::buffer(be8(out, 4));
     let n = room(out, &buffer);

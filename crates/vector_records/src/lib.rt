@@ -47,7 +47,8 @@ pub fn buffer(fill: u8) -> [u8; 1376256]
     [fill; 1376256]
 }
 
-// Room for a longer input. `vectors` has it and four more buffers on its stack, which is 8 MiB.
+// Room for a longer input. `vectors` has it and four more buffers on its stack, which is 8 MiB. So that one call's buffers do not stand on it
+// beside another's, no function with such a buffer is compiled into its caller.
 pub fn long_buffer(fill: u8) -> [u8; 2097152]
     ensures bytes { result ≡ replicate 2097152 fill }
     ensures size { 2097152 ≡ length result }

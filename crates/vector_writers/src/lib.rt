@@ -110,6 +110,7 @@ fn write_bind(given: &[u8], out: &mut [u8]) -> Written {
     write_lists(field(given), field(second), field(after_field(second)), out)
 }
 
+#[inline(never)]
 fn write_empty(nothing: &[u8], count: usize, out: &mut [u8]) -> Written {
     let all = [nothing; 65536];
     bind_writer::write_bind(
@@ -170,6 +171,7 @@ fn print_out_crc(rt: &impl Print, kind: u8, given: &[u8], out: &mut [u8]) -> io:
     print_crc(rt, crc64::crc64(out))
 }
 
+#[inline(never)]
 pub fn print_long(rt: &impl Print, kind: u8, out: &[u8], given: &[u8]) -> io::Result<()> {
     let mut buffer = vector_records::buffer(be8(out, 4));
     let n = room(out, &buffer);

@@ -9,50 +9,51 @@
 use fields::Checked;
 use image::ImageHeader;
 use pose::Transform;
+use std::io;
 use vector_records::{print_bytes, print_mark, print_number, print_word};
 
-fn print_words(words: [u32; 3]) {
-    print_word(words[0]);
-    print_word(words[1]);
-    print_word(words[2]);
+fn print_words(rt: &impl Print, words: [u32; 3]) -> io::Result<()> {
+    print_word(rt, words[0])?;
+    print_word(rt, words[1])?;
+    print_word(rt, words[2])
 }
 
-fn print_sizes(sizes: [u16; 3]) {
-    print_number(sizes[0] as u64);
-    print_number(sizes[1] as u64);
-    print_number(sizes[2] as u64);
+fn print_sizes(rt: &impl Print, sizes: [u16; 3]) -> io::Result<()> {
+    print_number(rt, sizes[0] as u64)?;
+    print_number(rt, sizes[1] as u64)?;
+    print_number(rt, sizes[2] as u64)
 }
 
-fn print_columns(transform: Transform) {
+fn print_columns(rt: &impl Print, transform: Transform) -> io::Result<()> {
     let column1 = transform.column1;
     let column2 = transform.column2;
     let column3 = transform.column3;
     let translation = transform.translation;
-    print_words(column1);
-    print_words(column2);
-    print_words(column3);
-    print_words(translation);
+    print_words(rt, column1)?;
+    print_words(rt, column2)?;
+    print_words(rt, column3)?;
+    print_words(rt, translation)
 }
 
-pub fn print_transform(content: &[u8]) {
-    print_number(pose::transform_fault(content) as u64);
+pub fn print_transform(rt: &impl Print, content: &[u8]) -> io::Result<()> {
+    print_number(rt, pose::transform_fault(content) as u64)?;
     let read = pose::read_transform(content);
-    print_number(read.number as u64);
-    print_columns(read.transform);
+    print_number(rt, read.number as u64)?;
+    print_columns(rt, read.transform)
 }
 
-pub fn print_position(content: &[u8]) {
-    print_number(pose::position_fault(content) as u64);
+pub fn print_position(rt: &impl Print, content: &[u8]) -> io::Result<()> {
+    print_number(rt, pose::position_fault(content) as u64)?;
     let read = pose::read_position(content);
-    print_number(read.number as u64);
-    print_number(read.count as u64);
+    print_number(rt, read.number as u64)?;
+    print_number(rt, read.count as u64)?;
     let words = read.words;
-    print_words([words[0], words[1], words[2]]);
-    print_words([words[3], words[4], words[5]]);
-    print_word(words[6]);
+    print_words(rt, [words[0], words[1], words[2]])?;
+    print_words(rt, [words[3], words[4], words[5]])?;
+    print_word(rt, words[6])
 }
 
-fn print_header(header: ImageHeader) {
+fn print_header(rt: &impl Print, header: ImageHeader) -> io::Result<()> {
     let size = header.size;
     let axis_i = header.axis_i;
     let axis_j = header.axis_j;
@@ -60,42 +61,48 @@ fn print_header(header: ImageHeader) {
     let centre = header.centre;
     let offset = header.offset;
     let sub_size = header.sub_size;
-    print_number(header.version as u64);
-    print_number(header.components as u64);
-    print_number(header.scalar_type as u64);
-    print_number(header.endian as u64);
-    print_number(header.coordinate as u64);
-    print_sizes(size);
-    print_words(axis_i);
-    print_words(axis_j);
-    print_words(axis_k);
-    print_words(centre);
-    print_sizes(offset);
-    print_sizes(sub_size);
+    print_number(rt, header.version as u64)?;
+    print_number(rt, header.components as u64)?;
+    print_number(rt, header.scalar_type as u64)?;
+    print_number(rt, header.endian as u64)?;
+    print_number(rt, header.coordinate as u64)?;
+    print_sizes(rt, size)?;
+    print_words(rt, axis_i)?;
+    print_words(rt, axis_j)?;
+    print_words(rt, axis_k)?;
+    print_words(rt, centre)?;
+    print_sizes(rt, offset)?;
+    print_sizes(rt, sub_size)
 }
 
-pub fn print_image(content: &[u8]) {
-    print_number(image::image_fault(content) as u64);
+pub fn print_image(rt: &impl Print, content: &[u8]) -> io::Result<()> {
+    print_number(rt, image::image_fault(content) as u64)?;
     let read = image::read_image(content);
-    print_number(read.number as u64);
-    print_header(read.header);
-    print_bytes(image::pixels(content));
+    print_number(rt, read.number as u64)?;
+    print_header(rt, read.header)?;
+    print_bytes(rt, image::pixels(content))
 }
 
-fn print_checked(checked: Checked) {
-    print_number(checked.number as u64);
-    print_mark(checked.clean);
+fn print_checked(rt: &impl Print, checked: Checked) -> io::Result<()> {
+    print_number(rt, checked.number as u64)?;
+    print_mark(rt, checked.clean)
 }
 
-pub fn print_numbers(type_text: &[u8], content: &[u8]) {
-    print_checked(content::content_check(type_text, content));
-    print_number(content::nested_fault(type_text, content) as u64);
-    print_checked(content::bind_check(content));
+pub fn print_numbers(rt: &impl Print, type_text: &[u8], content: &[u8]) -> io::Result<()> {
+    print_checked(rt, content::content_check(type_text, content))?;
+    print_number(rt, content::nested_fault(type_text, content) as u64)?;
+    print_checked(rt, content::bind_check(content))
 }
 
-pub fn print_patched(type_text: &[u8], length: &[u8], patches: &[u8]) {
+#[inline(never)]
+pub fn print_patched(
+    rt: &impl Print,
+    type_text: &[u8],
+    length: &[u8],
+    patches: &[u8],
+) -> io::Result<()> {
     let mut zeros = vector_records::buffer(0);
     vector_records::patch(patches, &mut zeros);
     let content = fields::slice::first(&zeros, fields::number::be32(length, 0) as usize);
-    print_checked(content::content_check(type_text, content));
+    print_checked(rt, content::content_check(type_text, content))
 }

@@ -7,39 +7,40 @@
 // given is its nine fields in eight bytes each. Of the number and the mark the last byte counts.
 use bind_cursor::Cursor;
 use fields::number::{be8, be64};
+use std::io;
 use vector_records::{print_bytes, print_mark, print_number};
 
-fn print_fields(cursor: Cursor) {
-    print_number(cursor.number as u64);
-    print_number(cursor.left as u64);
-    print_number(cursor.type_at as u64);
-    print_number(cursor.type_len as u64);
-    print_number(cursor.name_at as u64);
-    print_number(cursor.name_len as u64);
-    print_number(cursor.at as u64);
-    print_number(cursor.len as u64);
-    print_mark(cursor.clean);
+fn print_fields(rt: &impl Print, cursor: Cursor) -> io::Result<()> {
+    print_number(rt, cursor.number as u64)?;
+    print_number(rt, cursor.left as u64)?;
+    print_number(rt, cursor.type_at as u64)?;
+    print_number(rt, cursor.type_len as u64)?;
+    print_number(rt, cursor.name_at as u64)?;
+    print_number(rt, cursor.name_len as u64)?;
+    print_number(rt, cursor.at as u64)?;
+    print_number(rt, cursor.len as u64)?;
+    print_mark(rt, cursor.clean)
 }
 
-fn print_parts(content: &[u8], cursor: Cursor) {
-    print_bytes(bind_cursor::type_text(content, cursor));
-    print_bytes(bind_cursor::name(content, cursor));
-    print_bytes(bind_cursor::data(content, cursor));
+fn print_parts(rt: &impl Print, content: &[u8], cursor: Cursor) -> io::Result<()> {
+    print_bytes(rt, bind_cursor::type_text(content, cursor))?;
+    print_bytes(rt, bind_cursor::name(content, cursor))?;
+    print_bytes(rt, bind_cursor::data(content, cursor))
 }
 
-fn print_cursor(content: &[u8], cursor: Cursor) {
-    print_fields(cursor);
-    print_parts(content, cursor);
+fn print_cursor(rt: &impl Print, content: &[u8], cursor: Cursor) -> io::Result<()> {
+    print_fields(rt, cursor)?;
+    print_parts(rt, content, cursor)
 }
 
-pub fn print_walk(content: &[u8]) {
+pub fn print_walk(rt: &impl Print, content: &[u8]) -> io::Result<()> {
     let mut cursor = bind_cursor::first_child(content);
     while 0 < cursor.left {
-        print_cursor(content, cursor);
+        print_cursor(rt, content, cursor)?;
         cursor = bind_cursor::next_child(content, cursor);
     }
-    print_cursor(content, cursor);
-    print_cursor(content, bind_cursor::next_child(content, cursor));
+    print_cursor(rt, content, cursor)?;
+    print_cursor(rt, content, bind_cursor::next_child(content, cursor))
 }
 
 fn cursor_of(given: &[u8]) -> Cursor {
@@ -56,8 +57,8 @@ fn cursor_of(given: &[u8]) -> Cursor {
     }
 }
 
-pub fn print_next(content: &[u8], given: &[u8]) {
+pub fn print_next(rt: &impl Print, content: &[u8], given: &[u8]) -> io::Result<()> {
     let cursor = cursor_of(given);
-    print_fields(bind_cursor::next_child(content, cursor));
-    print_parts(content, cursor);
+    print_fields(rt, bind_cursor::next_child(content, cursor))?;
+    print_parts(rt, content, cursor)
 }
