@@ -2,48 +2,50 @@
 // the script's bytes (docs/SCRIPTS.md). For each it prints a line with its number, one for each call with the call's place and answer,
 // and one for each tile added with the answer to a look at it after the script, with that clock. A record that the input's end cuts short
 // ends the run.
+#![tactic(auto)]
+
 ghost use Rattle.std.specs.Prelude.{◌≡◌, ◌+◌, ◌≤◌};
 ghost use Rattle.fields.specs.Numbers.{be_at};
 
-use libc::{STDIN_FILENO, STDOUT_FILENO};
 use replay::{Answered, CallAnswer};
+use std::io;
 
 // ---- answers
 
-fn print_value(bytes: [u8; panel::VALUE_SIZE], len: usize) {
-    vector_records::print_bytes(fields::slice::first(&bytes[..], len));
+fn print_value(rt: &impl Print, bytes: [u8; panel::VALUE_SIZE], len: usize) -> io::Result<()> {
+    vector_records::print_bytes(rt, fields::slice::first(&bytes[..], len))
 }
 
-fn print_word(word: &[u8]) {
-    io::write_all(STDOUT_FILENO, word);
+fn print_word(rt: &impl Print, word: &[u8]) -> io::Result<()> {
+    rt.write_all(word)
 }
 
 // A word, and the number that goes with it.
-fn print_with(word: &[u8], number: u64) {
-    print_word(word);
-    vector_records::print_number(number);
+fn print_with(rt: &impl Print, word: &[u8], number: u64) -> io::Result<()> {
+    print_word(rt, word)?;
+    vector_records::print_number(rt, number)
 }
 
-fn print_answer(answered: Answered) {
+fn print_answer(rt: &impl Print, answered: Answered) -> io::Result<()> {
     let bytes = answered.value.bytes;
     let len = answered.value.len;
     let answer = answered.answer;
     match answer {
-        CallAnswer::Accepted => print_word(b" accepted"),
-        CallAnswer::Added(tile) => print_with(b" added", tile as u64),
-        CallAnswer::Empty => print_word(b" empty"),
+        CallAnswer::Accepted => print_word(rt, b" accepted"),
+        CallAnswer::Added(tile) => print_with(rt, b" added", tile as u64),
+        CallAnswer::Empty => print_word(rt, b" empty"),
         CallAnswer::Green(age) => {
-            print_with(b" green", age);
-            print_value(bytes, len);
+            print_with(rt, b" green", age)?;
+            print_value(rt, bytes, len)
         }
         CallAnswer::Grey(age) => {
-            print_with(b" grey", age);
-            print_value(bytes, len);
+            print_with(rt, b" grey", age)?;
+            print_value(rt, bytes, len)
         }
-        CallAnswer::Refused(number) => print_with(b" refused", number as u64),
-        CallAnswer::NoCall => {}
-    }
-    vector_records::end_line();
+        CallAnswer::Refused(number) => print_with(rt, b" refused", number as u64),
+        CallAnswer::NoCall => Ok(()),
+    }?;
+    vector_records::end_line(rt)
 }
 
 // How many tiles a call has added: one or none.
@@ -68,36 +70,37 @@ fn is_no_call(answered: Answered) -> bool {
 // ---- scripts
 
 // A line for each call; gives how many tiles were added. A call takes at least a byte.
-fn print_calls(script: &[u8]) -> usize {
+fn print_calls(rt: &impl Print, script: &[u8]) -> io::Result<usize> {
     let mut tiles = 0;
     let mut place = 0;
     while place < script.len() {
         let answered = replay::answer_at(script, place);
         if is_no_call(answered) {
-            return tiles;
+            return Ok(tiles);
         }
-        io::print_decimal(STDOUT_FILENO, place as u64);
-        print_answer(answered);
+        print!(rt; "{place}")?;
+        print_answer(rt, answered)?;
         tiles += added(answered);
         place += 1;
     }
-    tiles
+    Ok(tiles)
 }
 
-fn print_tiles(script: &[u8], tiles: usize, clock: u64) {
+fn print_tiles(rt: &impl Print, script: &[u8], tiles: usize, clock: u64) -> io::Result<()> {
     let mut tile = 0;
     while tile < tiles {
-        print_with(b"tile", tile as u64);
-        print_answer(replay::look_after(script, tile, clock));
+        print_with(rt, b"tile", tile as u64)?;
+        print_answer(rt, replay::look_after(script, tile, clock))?;
         tile += 1;
     }
+    Ok(())
 }
 
-fn print_script(number: u64, clock: u64, script: &[u8]) {
-    print_with(b"script", number);
-    vector_records::end_line();
-    let tiles = print_calls(script);
-    print_tiles(script, tiles, clock);
+fn print_script(rt: &impl Print, number: u64, clock: u64, script: &[u8]) -> io::Result<()> {
+    print_with(rt, b"script", number)?;
+    vector_records::end_line(rt)?;
+    let tiles = print_calls(rt, script)?;
+    print_tiles(rt, script, tiles, clock)
 }
 
 // ---- records
@@ -112,20 +115,21 @@ fn end(records: &[u8]) -> usize
     SCRIPT_AT + fields::number::be32(records, 0) as usize
 }
 
-fn print_scripts(records: &[u8]) {
+fn print_scripts(rt: &impl Print, records: &[u8]) -> io::Result<()> {
     let mut left = records;
     let mut number = 0u64;
     while end(left) <= left.len() {
         let script = fields::slice::part(left, SCRIPT_AT, fields::number::be32(left, 0) as usize);
-        print_script(number, fields::number::be64(left, 4), script);
+        print_script(rt, number, fields::number::be64(left, 4), script)?;
         let next = fields::slice::rest(left, end(left));
         left = next;
         number += 1;
     }
+    Ok(())
 }
 
-fn main() {
+fn main(rt: HostRuntime) -> io::Result<()> {
     let mut buffer = vector_records::buffer(0);
-    let n = io::read_full(STDIN_FILENO, &mut buffer);
-    print_scripts(&buffer[..n]);
+    let n = vector_records::read_full(&mut rt.stdin(), &mut buffer)?;
+    print_scripts(&rt, &buffer[..n])
 }
