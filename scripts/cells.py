@@ -5,6 +5,7 @@ or '..'. A name stands in backticks and can have brackets behind it:
 In place of a name there can be one of PHRASES. A colon ends the list, and any words can follow; names in them are names of the tree."""
 import collections
 import glob
+import os
 import re
 
 import sources
@@ -61,8 +62,9 @@ def ends(function):
 
 
 def words_of_code():
-    """Every word of src/, specs/ and proofs/, comments apart, and every path below the folder of a crate."""
-    paths = glob.glob("crates/*/*/**", recursive=True)
+    """Every word of src/, specs/ and proofs/, comments apart, and every path below the folder of a crate, but for what `rt` puts into out/."""
+    outer = [path for path in glob.glob("crates/*/*") if os.path.basename(path) != "out"]
+    paths = [path for part in outer for path in glob.glob(f"{part}/**", recursive=True)]
     found = {path.split("/", 2)[2].rstrip("/") for path in paths}
     for path in paths:
         if path.endswith((".rt", ".antt")):

@@ -7,7 +7,7 @@ import re
 
 # Of a record the parts are its fields, of a data type its constructors.
 Definition = collections.namedtuple("Definition", "kind type body parts")
-# `used` and `aliases`: where a name, or the module behind a short name, comes from.
+# `used`: the crate, the module and the definition behind a name. `aliases`: the crate and the module behind a short name.
 Module = collections.namedtuple("Module", "definitions used aliases")
 # The path is that from the crate's root, as `number::be8` or `Panel::look`.
 Function = collections.namedtuple("Function", "crate path public")
@@ -17,9 +17,15 @@ TYPE_HEAD = re.compile(rf"(?:pub )?(record|data) ({NAME})(.*)")
 HEAD = re.compile(rf"(?:abbrev |unfoldable )?(?:pub )?()({NAME}) :(.*)")
 PART = re.compile(rf"(?:pub )?({NAME}) : ")
 BLOCK = re.compile(r"(?:unfoldable )?mutual|module _ (.*)")
-USE = re.compile(r"(?:pub )?use Rattle·(\w+)(?:·\w+)?\.specs\.([\w.-]+?)(?:\.\{(.*)\}| as (\S+))")
-FUNCTION = re.compile(r'^( *)(impl|(?:pub(?:\(\w+\))? )?(?:extern "C" )?fn) (\w+)', re.MULTILINE)
+PUB = r"(?:pub(?:\(\w+\))? )?"
+USE_LINE = re.compile(rf"^(?:ghost )?({PUB}use Rattle\..*?);?$", re.MULTILINE)
+USE = re.compile(rf"{PUB}use Rattle\.(\w+)\.specs\.([\w.-]+?)(?:\.\{{(.*)\}}| as (\S+))")
+FUNCTION = re.compile(rf'^( *)(impl|{PUB}(?:unsafe )?(?:extern "C" )?fn) (\w+)', re.MULTILINE)
+# What stands before a value in a record, or before an argument that is given by its name.
+LABEL = re.compile(rf"([{{;]\s*){NAME} = ")
 WORD = re.compile(r"[^\s(){},;«»]+")
+# The crate of the toolchain's library, whose names are not asked for.
+LIBRARY = "std"
 
 
 class Unknown(Exception):
@@ -50,7 +56,7 @@ def definitions(path):
     found, blocks, current = {}, [""], None
     for line in code(path).split("\n"):
         bare = line.strip()
-        if not bare or re.match(r"(?:pub )?(?:use|mod) ", bare):
+        if not bare or re.match(rf"{PUB}(?:use|mod) ", bare):
             continue
         indent = len(line) - len(line.lstrip())
         del blocks[indent // 2 + 1:]
@@ -73,10 +79,11 @@ def definitions(path):
 
 
 def extend(definition, bare, depth):
-    """A further line of a definition: of its type, up to the first clause, or of its body."""
+    """A further line of a definition: of its type, up to the first clause, or of its body. The name of a part is no word of the body."""
     part = PART.match(bare)
     if definition.kind and depth == 2 and part:
         definition.parts.append(part[1])
+        bare = bare[part.end():]
     in_type = not definition.kind and not definition.body and depth > 0
     (definition.type if in_type else definition.body).append(bare)
 
@@ -98,12 +105,16 @@ def modules(folder="specs"):
 def uses(path):
     """The names of specs/ that a file uses, and its short names for modules of specs/. A file of specs/ uses nothing else of ours."""
     used, aliases = {}, {}
-    for line in re.findall(r"^(?:ghost )?((?:pub )?use Rattle·.*?);?$", code(path), re.MULTILINE):
+    for line in USE_LINE.findall(code(path)):
         match = USE.fullmatch(line)
+        if f"use Rattle.{LIBRARY}." in line:
+            continue
         if match and match[4]:
             aliases[match[4]] = match.group(1, 2)
         elif match:
-            used.update({name: match.group(1, 2) for name in match[3].split(", ")})
+            for name in match[3].split(", "):
+                origin, _, here = name.partition(" as ")
+                used[here or origin] = (*match.group(1, 2), origin)
         elif "/specs/" in path or ".specs." in line:
             raise Unknown(f"{path}: not understood: {line}")
     return used, aliases
@@ -116,7 +127,7 @@ def owner(tree, crate, module, name):
     """The definition with this name, a constructor being its data type's. The types of src/ stand in no file: they are named by
     `declared` modules."""
     if module.split(".")[0] == "declared":
-        return crate, module.removesuffix(".the-variants"), name
+        return crate, module.removesuffix(".TheVariants"), name
     if (crate, module) not in tree:
         raise Unknown(f"no module {crate}/{module}")
     found = tree[crate, module].definitions
@@ -127,21 +138,22 @@ def owner(tree, crate, module, name):
 
 
 def words(text):
-    """The words of a text, but for projections (` .field`)."""
-    return {word.rstrip(".") for word in WORD.findall(text) if not word.startswith(".")}
+    """The words of a text, but for the labels of records and what is projected from brackets (`(f x).field`)."""
+    return {word.rstrip(".") for word in WORD.findall(LABEL.sub(r"\1", text)) if not word.startswith(".")}
 
 
 def mentioned(tree, module, own, text):
-    """The definitions of specs/ that a text mentions, whose module uses these; `own` are the names of that module itself."""
+    """The definitions of specs/ that a text mentions, whose module uses these; `own` are the names of that module itself. What stands behind
+    a name and a dot is a name of that module, or else a field."""
     found = set()
     for word in words(text):
-        alias, _, name = word.partition(".")
-        if name and alias in module.aliases:
-            found.add(owner(tree, *module.aliases[alias], name))
-        elif word in module.used:
-            found.add(owner(tree, *module.used[word], word))
-        elif word in own:
-            found.add(own[word])
+        name, *behind = word.split(".")
+        if behind and name in module.aliases:
+            found.add(owner(tree, *module.aliases[name], behind[0]))
+        elif name in module.used:
+            found.add(owner(tree, *module.used[name]))
+        elif name in own:
+            found.add(own[name])
     return found
 
 
@@ -158,8 +170,8 @@ def graph(tree):
     """For each definition those that it mentions. Every name that a module uses must be there."""
     found = {}
     for (crate, name), module in tree.items():
-        for word, origin in module.used.items():
-            owner(tree, *origin, word)
+        for origin in module.used.values():
+            owner(tree, *origin)
         own = own_names(tree, crate, name)
         for word, definition in module.definitions.items():
             key = (crate, name, word)
