@@ -1,6 +1,6 @@
 # shellcheck shell=bash
-# For the scripts in bash, which source it: where the repository is, help and errors, how a file is proved and built by `rt` where it is
-# missing or older than something in crates/, and how cargo is run for linked/.
+# For the scripts in bash, which source it: where the repository is, help and errors, how a crate is proved and built by `rt` where what it
+# is built into is missing or older than something in crates/, and how cargo is run for linked/.
 root=$(CDPATH='' cd -- "$(dirname -- "${BASH_SOURCE[0]}")/.." && pwd)
 
 fail() {
@@ -28,8 +28,11 @@ needs() {
     command -v "$1" >/dev/null || fail "no $1 on the PATH: $2"
 }
 
+# is_current FILE STAMP: is the file there, and nothing newer than the stamp, which is as old as the start of its build? What `rt` puts into
+# out/ is not asked, and not the time of a crate's folder, which out/ moves.
 is_current() {
-    [ -e "$1" ] && [ -z "$(find "$root/crates.txt" "$root/crates" -newer "$1" -print -quit)" ]
+    [ -e "$1" ] && [ -e "$2" ] && [ -z "$(find "$root/crates.txt" "$root/crates" -path "$root/crates/*/out" -prune -o \
+        \( ! -type d -o -path "$root/crates" -o -path "$root/crates/*/*" \) -newer "$2" -print -quit)" ]
 }
 
 # How many crates a crate rests on, itself among them: crates.txt has each below those that it uses.
@@ -40,37 +43,40 @@ count_crates() {
         END { print count }'
 }
 
-# show_progress COUNT: of what `rt` prints, a line for each of so many crates as soon as it is proved; an archive's is the last.
+# show_progress COUNT: of what `rt` prints, a line for each crate as soon as it is proved. Of so many crates it proves those that changed.
 show_progress() {
-    local line n=0
+    local line crate='' n=0
     while IFS= read -r line; do
         case $line in
-        'rt: '*' proved ('* | 'rt: target/staticlib/'*) echo "${0##*/}: $((++n)) of $1: ${line#rt: }" >&2 ;;
+        'crate '*': modules '*)
+            crate=${line%%:*}
+            crate=${crate#crate }
+            ;;
+        'logic=proved '*) echo "${0##*/}: $((++n)) of at most $1: $crate proved" >&2 ;;
         esac
     done
 }
 
-# build FILE VERB CRATE: `rt VERB CRATE` writes the file. The file gets the time of the start, as `rt` keeps one that is right, and so that
-# a source edited meanwhile is newer.
+# build VERB CRATE NAME: `rt VERB` in the crate's folder writes out/NAME there. `rt` leaves a file that is right as it is; so the time of the
+# start is that of a stamp in target/, and a source edited meanwhile is newer.
 build() {
-    local file=$1 count stamp=$root/target/${1##*/}.start said=$root/target/${1##*/}.said
-    shift
-    ! is_current "$file" || return 0
-    needs rt "the Rattle toolchain is needed to build ${file##*/}"
+    local file=$root/crates/$2/out/$3 count stamp=$root/target/$3.built said=$root/target/$3.said
+    ! is_current "$file" "$stamp" || return 0
+    needs rt "the Rattle toolchain is needed to build $3"
     count=$(count_crates "$2")
-    echo "${0##*/}: proving $count crates and building ${file##*/}; the first time takes some minutes" >&2
+    echo "${0##*/}: proving what changed of $count crates and building $3; the first time takes some minutes" >&2
     mkdir -p "$root/target"
-    touch "$stamp"
-    (cd "$root" && rt "$@" </dev/null 2>&1) | tee "$said" | show_progress "$count" || fail "rt $* failed:"$'\n'"$(cat "$said")"
-    [ -e "$file" ] || fail "rt $* wrote no ${file#"$root"/}:"$'\n'"$(cat "$said")"
-    touch -r "$stamp" "$file"
+    touch "$stamp.new"
+    (cd "$root/crates/$2" && rt "$1" </dev/null 2>&1) | tee "$said" | show_progress "$count" ||
+        fail "rt $1 in crates/$2 failed:"$'\n'"$(cat "$said")"
+    [ -e "$file" ] || fail "rt $1 wrote no ${file#"$root"/}:"$'\n'"$(cat "$said")"
+    mv "$stamp.new" "$stamp"
 }
 
 # cargo_linked build PROGRAM, cargo_linked test PROGRAM: of a program of linked/, over the proved library's archive.
 cargo_linked() {
-    local archive=$root/target/staticlib/libexports.a
     needs cargo "it is needed to build linked/"
-    build "$archive" staticlib exports
-    ARCHIVE=${archive%/*} CARGO_TARGET_DIR=$root/target/linked \
+    build lib exports libexports.a
+    ARCHIVE=$root/crates/exports/out CARGO_TARGET_DIR=$root/target/linked \
         cargo "$1" --quiet --release --offline --locked --manifest-path "$root/linked/Cargo.toml" --bin "$2" </dev/null
 }

@@ -184,7 +184,7 @@ def graph(tree):
 
 def crates():
     """The crates in the order of crates.txt."""
-    return re.findall(r"^(\w+):", read("crates.txt"), re.MULTILINE)
+    return re.findall(r"^(\w+)(?: [\w=+ ]+)?:", read("crates.txt"), re.MULTILINE)
 
 
 def functions():
