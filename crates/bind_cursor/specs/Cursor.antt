@@ -57,7 +57,7 @@ next_of s c =
     c.clean))
     c
 
--- the parts at the cursor's places: of `noChild` they have no bytes
+-- the parts at the cursor's places: of `no_child` they have no bytes
 abbrev pub type_part : List ℕ → Cursor → List ℕ
 type_part s c = part c.type_len c.type_at s
 

@@ -9,7 +9,7 @@ use Rattle.bind_lookup.specs.declared.Source.TheVariants.{Site, Default, Neither
 use Rattle.bind_lookup.specs.ChildLookup.{count_of, place_of, named_place, part_at, type_at, name_at}
 use Rattle.bind_lookup.specs.EitherLookup.{either_place, either_data, Finds}
 
--- three children of type "T": name "D", 81 82; name "A", 91; name "A", 92. `twoChildren` has "A" and "BC"
+-- three children of type "T": name "D", 81 82; name "A", 91; name "A", 92. `two_children` has "A" and "BC"
 abbrev pub three_children : List ℕ
 three_children =
     0 ∷ 3

@@ -10,7 +10,7 @@ use Rattle.content.specs.Examples.{spelled, no_children, within, inner, outer, i
 use Rattle.bind_writer.specs.ChildLists.{SizesFit}
 use Rattle.bind_writer.specs.BindWriter.{bind_written, bind_out}
 
--- the children of `twoChildren`
+-- the children of `two_children`
 abbrev pub types : List (List ℕ)
 types = (0x50 ∷ 0x51 ∷ []) ∷ (0x52 ∷ 0x53 ∷ 0x54 ∷ []) ∷ []
 
