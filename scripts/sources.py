@@ -1,5 +1,5 @@
 """The sources, as scripts/map and scripts/reach read them: the definitions of specs/ and proofs/ and what they mention, the functions of
-src/, the must-fail edits. A definition is named by its crate, its module and its name: `message/MessageReader.streamFault`."""
+src/, the must-fail edits. A definition is named by its crate, its module and its name: `message/MessageReader.stream_fault`."""
 import collections
 import glob
 import os
