@@ -2,7 +2,8 @@
 // two bytes, big endian, and then that many bytes; so is each field of a record.
 #![tactic(auto)]
 
-ghost use Rattle.std.specs.Prelude.{◌≡◌, ◌+◌, ◌≤◌, IfOk, length, min, replicate};
+ghost use Rattle.std.specs.Prelude.{◌≡◌, ◌+◌, ◌≤◌, ◌<◌, IfOk, length, take, min, replicate};
+ghost use Rattle.std.specs.Io.KnownBytes.{Consumes, IsAtEnd};
 ghost use Rattle.fields.specs.Numbers.{be_at};
 ghost use Rattle.vector_records.specs.Records.{field_of, after_field, is_whole, patched};
 
@@ -78,9 +79,12 @@ pub fn patch(patches: &[u8], out: &mut [u8])
     }
 }
 
-// Reads until the buffer is full or the input ends, and gives how many bytes stand at the buffer's front. Only a read that fails is an error.
+// Reads until the buffer is full or the input ends, and gives how many bytes stand at the buffer's front: the input's next bytes, and fewer than
+// the buffer holds only at its end. Only a read that fails is an error.
 pub fn read_full<R: Read>(reader: &mut R, buffer: &mut [u8]) -> io::Result<usize>
-    ensures { IfOk result (λ n. n ≤ length buffer.new) }
+    ensures in_bounds { IfOk result (λ n. n ≤ length buffer.new) }
+    ensures bytes { IfOk result (λ n. Consumes (R.remaining reader.old) (R.remaining reader.new) (take n buffer.new)) }
+    ensures end { IfOk result (λ n. n < length buffer.new → IsAtEnd (R.remaining reader.new)) }
 {
     let mut done = 0;
     while done < buffer.len() {

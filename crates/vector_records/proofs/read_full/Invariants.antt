@@ -1,10 +1,14 @@
--- `vector_records::read_full` is safe and ends. The loop's invariant: no more is read than the buffer holds. The measure is the room that is
--- left.
-use Rattle.std.proofs.Common.{length, ◌-◌, ◌≤◌}
+-- `vector_records::read_full` meets its contract. The loop's invariant: the buffer's front is what the input gave. The measure is the room that
+-- is left.
+use Rattle.std.proofs.Common.{◌≡◌, ◌-◌, ◌≤◌, length, take}
+use Rattle.std.specs.Io.KnownBytes.{Consumes}
 use Rattle.vector_records.proofs.read_full.Given as goal
 
 abbrev pub invariant-loop-done : goal.invariant-loop-done
-invariant-loop-done g l = l.done ≤ length l.buffer
+invariant-loop-done g l =
+    (length l.buffer ≡ length l.initial.buffer)
+    × (l.done ≤ length l.buffer)
+    × Consumes (g.R.Read.remaining l.initial.reader) (g.R.Read.remaining l.reader) (take l.done l.buffer)
 
 abbrev pub decreases-loop-done : goal.decreases-loop-done
 decreases-loop-done g l = length l.initial.buffer - l.done
