@@ -1,14 +1,21 @@
 -- `bind_writer::write_fault` meets its contract: the lists, the children, the room.
 use mathlib.Core.Path.{◌≡◌, sym, ◌∙◌}
 use mathlib.Core.Bool.{true}
-use mathlib.Core.List.{map}
-use Rattle.bind_writer.specs.ChildLists.{children}
-use Rattle.bind_writer.specs.BindWriter.{lists_ok}
+use mathlib.Core.List.{List, map}
+use Prim.Native.Nat.{ℕ}
+use Rattle.content.specs.ContentTheorems.{first_fault}
+use Rattle.bind_writer.specs.ChildLists.{children, WithContents}
+use Rattle.bind_writer.specs.BindWriter.{lists_ok, child_fault}
 use Rattle.bind_writer.proofs.Laws.Slices.{count_same}
 use Rattle.bind_writer.proofs.Laws.Children.{lists_of}
 use Rattle.bind_writer.proofs.Laws.Layout.{lists-passed}
 use Rattle.bind_writer.proofs.Laws.Faults.{by-lists, by-children, by-room}
 use Rattle.bind_writer.proofs.write_fault.Goals as goal
+
+-- of lists that pass, what is promised of any children with these types and contents holds of their own
+children-fault : (ts ns ds : List (List ℕ)) {n : ℕ} → lists_ok ts ns ds ≡ true → WithContents ts ds (λ cs. n ≡ first_fault child_fault cs)
+    → n ≡ first_fault child_fault (children ts ns ds)
+children-fault ts ns ds h f = let e = lists_of ts ns ds (lists-passed ts ns ds h).count in f (children ts ns ds) e.0 e.2
 
 pub returns-then-not-lists_ok : goal.returns-then-not-lists_ok
 returns-then-not-lists_ok c =
@@ -31,10 +38,8 @@ returns-then-fault-ne0 c =
     let ts = map (λ x. x.now) a.types.now in
     let ns = map (λ x. x.now) a.names.now in
     let ds = map (λ x. x.now) a.contents.now in
-    let g = c.lists_ok in
-    let h : lists_ok ts ns ds ≡ true = sym g.ensures ∙ c.if-not-lists_ok.false in
-    let e = lists_of ts ns ds (lists-passed ts ns ds h).count in
-    let f = c.first_fault-fault.ensures (children ts ns ds) e.0 e.2 in
+    let h : lists_ok ts ns ds ≡ true = sym c.lists_ok.ensures ∙ c.if-not-lists_ok.false in
+    let f = children-fault ts ns ds h c.first_fault-fault.ensures in
     f ∙ sym (by-children ts ns ds a.room h (λ z. c.if-fault-ne0.true (f ∙ z)))
 
 pub space_fault-requires : goal.space_fault-requires
@@ -48,8 +53,6 @@ returns c =
     let ts = map (λ x. x.now) a.types.now in
     let ns = map (λ x. x.now) a.names.now in
     let ds = map (λ x. x.now) a.contents.now in
-    let g = c.lists_ok in
-    let h : lists_ok ts ns ds ≡ true = sym g.ensures ∙ c.if-not-lists_ok.false in
-    let e = lists_of ts ns ds (lists-passed ts ns ds h).count in
-    let f = c.first_fault-fault.ensures (children ts ns ds) e.0 e.2 in
+    let h : lists_ok ts ns ds ≡ true = sym c.lists_ok.ensures ∙ c.if-not-lists_ok.false in
+    let f = children-fault ts ns ds h c.first_fault-fault.ensures in
     c.space_fault.ensures ∙ sym (by-room ts ns ds a.room h (sym f ∙ c.if-fault-ne0.false))
