@@ -56,7 +56,7 @@ def fields(tree, graph, key):
 
 
 def ends(function):
-    """The ways to name a function: `message::body::sections`, `body::sections`, `sections`."""
+    """The ways to name a function: `message::body::put_body`, `body::put_body`, `put_body`."""
     path = [function.crate, *function.path.split("::")]
     return ["::".join(path[start:]) for start in range(len(path))]
 

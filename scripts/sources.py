@@ -9,7 +9,7 @@ import re
 Definition = collections.namedtuple("Definition", "kind type body parts")
 # `used`: the crate, the module and the definition behind a name. `aliases`: the crate and the module behind a short name.
 Module = collections.namedtuple("Module", "definitions used aliases")
-# The path is that from the crate's root, as `number::be8` or `Panel::look`.
+# The path is that from the crate's root, as `number::three` or `Panel::look`.
 Function = collections.namedtuple("Function", "crate path public")
 
 NAME = r"[^\s:(){}]+"
@@ -18,9 +18,9 @@ HEAD = re.compile(rf"(?:abbrev |unfoldable )?(?:pub )?()({NAME}) :(.*)")
 PART = re.compile(rf"(?:pub )?({NAME}) : ")
 BLOCK = re.compile(r"(?:unfoldable )?mutual|module _ (.*)")
 PUB = r"(?:pub(?:\(\w+\))? )?"
-USE_LINE = re.compile(rf"^(?:ghost )?({PUB}use Rattle\..*?);?$", re.MULTILINE)
+USE_LINE = re.compile(rf"^ *(?:ghost )?({PUB}use Rattle\..*?);?$", re.MULTILINE)
 USE = re.compile(rf"{PUB}use Rattle\.(\w+)\.specs\.([\w.-]+?)(?:\.\{{(.*)\}}| as (\S+))")
-FUNCTION = re.compile(rf'^( *)(impl|{PUB}(?:unsafe )?(?:extern "C" )?fn) (\w+)', re.MULTILINE)
+FUNCTION = re.compile(rf'^( *)(impl|{PUB}trait|{PUB}(?:unsafe )?(?:extern "C" )?fn)(?:<[^>]*>)? (?:\w+ for )?(\w+)', re.MULTILINE)
 # What stands before a value in a record, or before an argument that is given by its name.
 LABEL = re.compile(rf"([{{;]\s*){NAME} = ")
 WORD = re.compile(r"[^\s(){},;«»]+")
@@ -203,16 +203,17 @@ def public_modules(crate):
 
 
 def functions_of(crate, path):
-    """The functions of one file."""
+    """The functions of one file. Those of a public trait are public; what stands for them at each type is not."""
     module = re.fullmatch(r"crates/\w+/src/(.+)\.rt", path)[1]
     outer = [] if module in ("lib", "main") else module.split("/")
-    block = None
+    block, open_block = None, False
     for indent, start, name in FUNCTION.findall(code(path)):
-        if start.startswith("impl"):
-            block = name
+        if not start.endswith("fn"):
+            block, open_block = name, start == "pub trait"
         else:
             path_in_crate = [*outer, *([block] if indent else []), name]
-            yield Function(crate, "::".join(path_in_crate), start.startswith("pub ") and module in public_modules(crate))
+            shown = start.startswith("pub ") or (bool(indent) and open_block)
+            yield Function(crate, "::".join(path_in_crate), shown and module in public_modules(crate))
 
 
 def edits():

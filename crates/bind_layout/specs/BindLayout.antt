@@ -5,8 +5,7 @@ use Rattle.fields.specs.Bytes.{part}
 use Rattle.fields.specs.Numbers.{be_at}
 use Rattle.fields.specs.Tables.{items_ok}
 use Rattle.fields.specs.Text.{text_of, past_text, all_zero, text_ok, field_ok}
-use Rattle.fields.specs.declared.Checked.{Checked}
-use Rattle.fields.specs.Answer.{checked}
+use Rattle.fields.specs.Answer.{Checked, checked}
 use Rattle.bind_layout.specs.Children.{child_header_size, ctype_size}
 
 -- N_CHILD

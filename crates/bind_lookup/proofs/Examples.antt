@@ -11,15 +11,14 @@ use Rattle.fields.specs.Received.{field_bytes}
 use Rattle.fields.specs.Answer.{checked}
 use Rattle.bind_layout.specs.Children.{padded, child_header, child_name, child_data, name_table, encode_children}
 use Rattle.bind_layout.specs.BindLayout.{types_ok, types_clean, name_ok, names_ok, table_ok, pad_ok, block_ok, data_ok, layout_ok, layout_fault}
-use Rattle.fields.specs.declared.Checked.{Checked}
+use Rattle.fields.specs.Answer.{Checked}
 use Rattle.content.specs.Kinds.{kind_of, bind_text}
 use Rattle.content.specs.ContentCheck.{children_fault, bind_fault, children_clean, bind_clean, bind_checked, content_checked, deepest}
 use Rattle.content.specs.Examples.{inner, outer, inner_rest}
 use Rattle.content.proofs.Examples.{examples as content-examples}
 use Rattle.content.proofs.Laws.Kinds.{kind-bind}
 use Rattle.content.proofs.Laws.ChildrenWalk.{bind-fault, kind-bound}
-use Rattle.bind_lookup.specs.declared.Place.{Place}
-use Rattle.bind_lookup.specs.ChildLookup.{names_from, data_from, index_in, count_of, mark_of, index_fault, placed, named_place, part_at, type_at, name_at}
+use Rattle.bind_lookup.specs.ChildLookup.{Place, names_from, data_from, index_in, count_of, mark_of, index_fault, placed, named_place, part_at, type_at, name_at}
 use Rattle.bind_lookup.specs.EitherLookup.{sourced, either_place}
 use Rattle.bind_lookup.specs.Examples.{Examples}
 

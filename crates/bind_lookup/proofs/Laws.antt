@@ -3,3 +3,4 @@ pub mod Past
 pub mod Cases
 pub mod LookupTheorems
 pub mod EitherTheorems
+pub mod Judged

@@ -1,14 +1,16 @@
 -- Look-ups in a BIND content (rule 6.1), for any bytes: where a child stands, and the answers. The content is judged first; then comes 19
 -- (rule 5.5). The part that a refusal returns has no bytes (rule 5.6). The mark is that of the whole content (rule 13.4).
-use Rattle.std.specs.Prelude.{ℕ, zero, suc, ◌-◌, ◌*◌, Bool, false, cond, List, [], eqb, ltb, length, drop}
+use Rattle.std.specs.Prelude.{ℕ, zero, suc, ◌-◌, ◌*◌, Bool, false, cond, List, [], eqb, ltb, length, drop, Option, Some, None, Result, Ok, Err}
 use Rattle.fields.specs.Bytes.{part, same}
 use Rattle.fields.specs.Text.{text_of, past_text}
 use Rattle.fields.specs.Checks.{or_else}
+use Rattle.fields.specs.Fault.{fault_number}
+use Rattle.fields.specs.declared.fault.Fault.{Fault}
 use Rattle.bind_layout.specs.Children.{child_header_size}
 use Rattle.bind_layout.specs.BindLayout.{child_count, headers, table_of, data_of, type_of, size_of, after_block}
 use Rattle.content.specs.ContentCheck.{bind_fault, bind_checked, deepest}
-use Rattle.bind_lookup.specs.declared.ChildCount.{ChildCount}
-use Rattle.bind_lookup.specs.declared.Place.{Place}
+use Rattle.bind_lookup.specs.declared.ChildCount.{ChildCount as CountFound}
+use Rattle.bind_lookup.specs.declared.Place.{Place as PlaceFound}
 
 -- ---- the children, by their index
 
@@ -31,10 +33,40 @@ unfoldable pub index_in : ℕ → List ℕ → List ℕ → ℕ
 index_in zero t x = 0
 index_in (suc k) t x = cond (same (text_of t) x) 0 (suc (index_in k (past_text t) x))
 
+-- an index that may be none of n
+abbrev pub index_or : ℕ → Option ℕ → ℕ
+index_or n (Some i) = i
+index_or n None = n
+
 abbrev pub index_of : List ℕ → List ℕ → ℕ
 index_of s x = index_in (child_count s) (table_of s) x
 
 -- ---- the answers
+
+-- the number (rule 5.1), and how many children there are
+pub record ChildCount : Type 0 where
+  pub number : ℕ
+  pub count : ℕ
+  pub clean : Bool
+
+-- the number, and where a child's data stands in the content and how long it is
+pub record Place : Type 0 where
+  pub number : ℕ
+  pub at : ℕ
+  pub len : ℕ
+  pub clean : Bool
+
+-- what the answers say: of a refusal, all but the number is 0, and the mark false
+abbrev pub count_answer : Result CountFound Fault → ChildCount
+count_answer (Ok c) = record { number = 0; count = c.count; clean = c.clean }
+count_answer (Err f) = record { number = fault_number f; count = 0; clean = false }
+
+abbrev pub place_found : PlaceFound → Place
+place_found p = record { number = 0; at = p.at; len = p.len; clean = p.clean }
+
+abbrev pub place_answer : Result PlaceFound Fault → Place
+place_answer (Ok p) = place_found p
+place_answer (Err f) = record { number = fault_number f; at = 0; len = 0; clean = false }
 
 -- the mark of a content; false where it is refused (rule 13.3)
 abbrev pub mark_of : List ℕ → Bool

@@ -1,15 +1,47 @@
 -- Look-ups by name in two bundles (rule 6.2): where the child stands in the site's bundle or, if that has no such child, in the default
 -- one, and in which of the two. The site's bundle is judged first, then the default one; then comes 19 (rule 5.5).
-use Rattle.std.specs.Prelude.{ℕ, ◌≡◌, Bool, cond, List, [], eqb, ltb}
+use Rattle.std.specs.Prelude.{ℕ, ◌≡◌, Bool, false, cond, List, [], eqb, ltb, Option, Some, None, Result, Ok, Err}
 use Rattle.fields.specs.Bytes.{part}
 use Rattle.fields.specs.Checks.{or_else}
 use Rattle.bind_layout.specs.BindLayout.{child_count}
 use Rattle.content.specs.ContentCheck.{bind_fault, deepest}
-use Rattle.bind_lookup.specs.declared.Place.{Place}
-use Rattle.bind_lookup.specs.declared.EitherPlace.{EitherPlace}
-use Rattle.bind_lookup.specs.declared.Source.{Source}
-use Rattle.bind_lookup.specs.declared.Source.TheVariants.{Site, Default, Neither}
-use Rattle.bind_lookup.specs.ChildLookup.{index_of, mark_of, place_in}
+use Rattle.fields.specs.Fault.{fault_number}
+use Rattle.fields.specs.declared.fault.Fault.{Fault}
+use Rattle.bind_lookup.specs.declared.EitherPlace.{EitherPlace as EitherFound}
+use Rattle.bind_lookup.specs.declared.Source.{Source as SourceFound}
+use Rattle.bind_lookup.specs.declared.Source.TheVariants.{Site as SiteFound, Default as DefaultFound}
+use Rattle.bind_lookup.specs.ChildLookup.{Place, index_of, mark_of, place_in}
+
+-- which of two bundles a child is in: neither where the look-up is refused
+pub data Source : Type 0 where
+  Site : Source
+  Default : Source
+  Neither : Source
+
+-- the number (rule 5.1), and a place in the bundle that the source names
+pub record EitherPlace : Type 0 where
+  pub number : ℕ
+  pub source : Source
+  pub at : ℕ
+  pub len : ℕ
+  pub clean : Bool
+
+-- what the answers say: of a refusal, all but the number is 0, and the mark false
+abbrev pub source_found : SourceFound → Source
+source_found SiteFound = Site
+source_found DefaultFound = Default
+
+abbrev pub source_answer : Option SourceFound → Source
+source_answer (Some s) = source_found s
+source_answer None = Neither
+
+abbrev pub either_found : EitherFound → EitherPlace
+either_found p =
+    record { number = 0; source = source_found p.source; at = p.place.at; len = p.place.len; clean = p.place.clean }
+
+abbrev pub either_answer : Result EitherFound Fault → EitherPlace
+either_answer (Ok p) = either_found p
+either_answer (Err f) = record { number = fault_number f; source = Neither; at = 0; len = 0; clean = false }
 
 -- the first fault of the two
 abbrev pub either_fault : List ℕ → List ℕ → ℕ

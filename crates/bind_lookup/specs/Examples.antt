@@ -2,12 +2,8 @@
 use Rattle.std.specs.Prelude.{ℕ, ◌≡◌, Bool, true, false, List, [], ◌∷◌, ◌++◌, map, replicate}
 use Rattle.bind_layout.specs.Examples.{two_children}
 use Rattle.content.specs.Examples.{no_children, within, inner, outer, inner_rest, outer_rest}
-use Rattle.bind_lookup.specs.declared.Place.{Place}
-use Rattle.bind_lookup.specs.declared.EitherPlace.{EitherPlace}
-use Rattle.bind_lookup.specs.declared.Source.{Source}
-use Rattle.bind_lookup.specs.declared.Source.TheVariants.{Site, Default, Neither}
-use Rattle.bind_lookup.specs.ChildLookup.{count_of, place_of, named_place, part_at, type_at, name_at}
-use Rattle.bind_lookup.specs.EitherLookup.{either_place, either_data, Finds}
+use Rattle.bind_lookup.specs.ChildLookup.{Place, count_of, place_of, named_place, part_at, type_at, name_at}
+use Rattle.bind_lookup.specs.EitherLookup.{EitherPlace, Source, Site, Default, Neither, either_place, either_data, Finds}
 
 -- three children of type "T": name "D", 81 82; name "A", 91; name "A", 92. `two_children` has "A" and "BC"
 abbrev pub three_children : List ℕ

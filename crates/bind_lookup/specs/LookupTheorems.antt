@@ -5,11 +5,8 @@ use Rattle.fields.specs.Lists.{Each, flat}
 use Rattle.bind_layout.specs.Children.{Child, child_data, name_table}
 use Rattle.content.specs.Tree.{Children, bind, encode, child_list, WellFormed, IsClean}
 use Rattle.content.specs.ContentCheck.{bind_fault, deepest}
-use Rattle.bind_lookup.specs.declared.Place.{Place}
-use Rattle.bind_lookup.specs.declared.Source.{Source}
-use Rattle.bind_lookup.specs.declared.Source.TheVariants.{Site, Default, Neither}
-use Rattle.bind_lookup.specs.ChildLookup.{mark_of, count_of, place_of, named_place, part_at, type_at, name_at}
-use Rattle.bind_lookup.specs.EitherLookup.{either_place, bundle_of, either_data, Finds}
+use Rattle.bind_lookup.specs.ChildLookup.{Place, mark_of, count_of, place_of, named_place, part_at, type_at, name_at}
+use Rattle.bind_lookup.specs.EitherLookup.{Source, Site, Default, Neither, either_place, bundle_of, either_data, Finds}
 
 -- these are the children of an accepted content: a well formed BIND with them is written as it
 pub record HasChildren (s : List ℕ) (cs : List Child) : Type 0 where

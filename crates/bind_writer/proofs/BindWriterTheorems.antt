@@ -13,9 +13,7 @@ use Rattle.fields.specs.Text.{is_text}
 use Rattle.fields.specs.Received.{Fills}
 use Rattle.fields.proofs.Laws.Received.{zero-fills}
 use Rattle.fields.specs.Checks.{or_else}
-use Rattle.fields.specs.declared.Checked.{Checked}
-use Rattle.fields.specs.Answer.{written_number, written_count, room_fault}
-use Rattle.fields.specs.declared.Written.TheVariants.{Wrote}
+use Rattle.fields.specs.Answer.{Checked, Wrote, written_number, written_count, room_fault}
 use Rattle.fields.proofs.Laws.Checks.{and_split, and-join, zero-else}
 use Rattle.fields.proofs.Laws.Tests.{is_false}
 use Rattle.fields.proofs.Laws.Lists.{each_all}

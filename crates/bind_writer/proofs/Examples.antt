@@ -11,8 +11,7 @@ use Rattle.fields.specs.Numbers.{be_val, be_bytes}
 use Rattle.fields.specs.Text.{is_text, text_of, past_text, all_zero, text_ok, text_clean, field_ok, text_bytes}
 use Rattle.fields.specs.Received.{field_bytes}
 use Rattle.fields.specs.Checks.{or_else}
-use Rattle.fields.specs.declared.Checked.{Checked}
-use Rattle.fields.specs.Answer.{checked, room_fault}
+use Rattle.fields.specs.Answer.{Checked, checked, room_fault}
 use Rattle.fields.specs.Writers.{written_by, out_by}
 use Rattle.fields.proofs.Laws.Bytes.{bytes-cons}
 use Rattle.fields.proofs.Laws.Checks.{zero-else}

@@ -5,7 +5,7 @@ use Rattle.fields.specs.Numbers.{be_bytes, size_limit}
 use Rattle.fields.specs.Text.{is_text, text_bytes}
 use Rattle.fields.specs.Checks.{or_else}
 use Rattle.fields.specs.Writers.{written_by, out_by, WriterPromise}
-use Rattle.fields.specs.declared.Written.{Written}
+use Rattle.fields.specs.Answer.{Written}
 use Rattle.bind_layout.specs.Children.{ctype_size, Child, padded, name_table, encode_children}
 use Rattle.content.specs.ContentCheck.{content_fault, nested_levels}
 use Rattle.content.specs.ContentTheorems.{first_fault}

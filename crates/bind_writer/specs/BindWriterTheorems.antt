@@ -3,9 +3,7 @@ use Rattle.std.specs.Prelude.{ℕ, ◌≤◌, ◌≡◌, true, List, ◌++◌, l
 use Rattle.fields.specs.Bytes.{Bytes}
 use Rattle.fields.specs.Lists.{Each}
 use Rattle.fields.specs.Checks.{or_else}
-use Rattle.fields.specs.Answer.{written_number, written_count, room_fault}
-use Rattle.fields.specs.declared.Written.{Written}
-use Rattle.fields.specs.declared.Written.TheVariants.{Wrote}
+use Rattle.fields.specs.Answer.{Written, Wrote, written_number, written_count, room_fault}
 use Rattle.bind_layout.specs.Children.{Child, encode_children, WellBundle}
 use Rattle.content.specs.Tree.{Children, bind, encode, child_list, WellFormed, cleaned}
 use Rattle.content.specs.ContentCheck.{bind_fault, bind_checked, deepest}

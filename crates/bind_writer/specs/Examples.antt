@@ -2,8 +2,7 @@
 use Rattle.std.specs.Prelude.{ℕ, ◌≡◌, List, [], ◌∷◌, ◌++◌, map, replicate}
 use Rattle.fields.specs.Bytes.{Bytes}
 use Rattle.fields.specs.Lists.{Each}
-use Rattle.fields.specs.declared.Written.{Written}
-use Rattle.fields.specs.declared.Written.TheVariants.{Wrote, Refused}
+use Rattle.fields.specs.Answer.{Written, Wrote, Refused}
 use Rattle.bind_layout.specs.Examples.{two_children}
 use Rattle.content.specs.Kinds.{bind_text}
 use Rattle.content.specs.Examples.{spelled, no_children, within, inner, outer, inner_rest}

@@ -8,23 +8,23 @@ ghost use Rattle.bind_layout.specs.Children.{child_header_size};
 ghost use Rattle.bind_layout.specs.BindLayout.{layout_fault};
 ghost use Rattle.cleaning.specs.CleanBytes.{clean_headers, clean_front, clean_bind, clean_bytes, bounded_levels, clean_put};
 
-use bind_layout::bind_parts::{CHILD_HEADER_SIZE, CTYPE_SIZE};
+use bind_layout::bind_parts::{CHILD_HEADER_SIZE, CTYPE_SIZE, Children, type_of};
+use fields::number::Number;
+use fields::slice::{first, part, rest};
+use fields::store::{array, put};
 
 // Writes the headers of n children: the text of each CTYPE, zeros, and CSIZE.
 fn put_headers(headers: &[u8], n: usize, at: usize, out: &mut [u8])
     requires { (child_header_size * n ≤ length headers.now) × (at + child_header_size * n ≤ length out.old) }
     ensures { out.new ≡ sets out.old at (clean_headers n headers.now) }
 {
-    let mut h = headers;
-    let mut to = at;
-    let mut left = n;
-    while 0 < left {
-        fields::text::put_text12(bind_layout::bind_parts::type_of(h), to, out);
-        fields::store::put(fields::slice::part(h, CTYPE_SIZE, 8), to + CTYPE_SIZE, out);
-        let next = fields::slice::rest(h, CHILD_HEADER_SIZE);
-        h = next;
-        to += CHILD_HEADER_SIZE;
-        left -= 1;
+    let mut left = headers;
+    for i in 0..n {
+        let to = at + CHILD_HEADER_SIZE * i;
+        let type_text = array::<CTYPE_SIZE>(type_of(left));
+        put(&type_text, to, out);
+        put(part(left, CTYPE_SIZE, 8), to + CTYPE_SIZE, out);
+        left = rest(left, CHILD_HEADER_SIZE);
     }
 }
 
@@ -35,11 +35,11 @@ fn put_front(content: &[u8], at: usize, out: &mut [u8])
 {
     let n = bind_layout::bind_parts::child_count(content);
     let after = bind_layout::bind_parts::after_headers(content);
-    let table_size = fields::number::be16(after, 0) as usize;
-    fields::store::put(fields::slice::first(content, 2), at, out);
+    let table_size = u16::read(after, 0) as usize;
+    put(first(content, 2), at, out);
     put_headers(bind_layout::bind_parts::headers(content), n, at + 2, out);
-    fields::store::put(
-        fields::slice::first(after, 2 + table_size),
+    put(
+        first(after, 2 + table_size),
         at + 2 + CHILD_HEADER_SIZE * n,
         out,
     );
@@ -56,7 +56,7 @@ fn put_content(type_text: &[u8], content: &[u8], levels: u32, at: usize, out: &m
         put_bind(content, levels, at, out);
         return;
     }
-    fields::store::put(content, at, out);
+    put(content, at, out);
 }
 
 // A BIND that is too deep, or not laid out as one, is written as it is given.
@@ -66,39 +66,22 @@ fn put_bind(content: &[u8], levels: u32, at: usize, out: &mut [u8])
     ensures { out.new ≡ sets out.old at (clean_bind levels content.now) }
 {
     if levels == 0 {
-        fields::store::put(content, at, out);
+        put(content, at, out);
         return;
     }
-    let layout = bind_layout::layout_check::layout_check(content);
-    if layout.number != 0 {
-        fields::store::put(content, at, out);
+    if bind_layout::layout_check::layout_check(content).is_err() {
+        put(content, at, out);
         return;
     }
     put_front(content, at, out);
-    let mut h = bind_layout::bind_parts::headers(content);
-    let mut d = bind_layout::bind_parts::data_of(content);
-    let mut left = bind_layout::bind_parts::child_count(content);
-    while 0 < left {
-        let size = bind_layout::bind_parts::size_of(h);
-        let child = fields::slice::first(d, size);
-        let to = at + (content.len() - d.len());
-        put_content(
-            bind_layout::bind_parts::type_of(h),
-            child,
-            levels - 1,
-            to,
-            out,
-        );
-        fields::store::put(
-            fields::slice::part(d, size, size % 2),
-            to + child.len(),
-            out,
-        );
-        let next_headers = fields::slice::rest(h, CHILD_HEADER_SIZE);
-        h = next_headers;
-        let next_data = bind_layout::bind_parts::after_block(d, size);
-        d = next_data;
-        left -= 1;
+    let mut left = Children::of(content);
+    for _ in 0..bind_layout::bind_parts::child_count(content) {
+        let size = left.size();
+        let child = left.content();
+        let to = at + (content.len() - left.data.len());
+        put_content(left.type_text(), child, levels - 1, to, out);
+        put(part(left.data, size, size % 2), to + child.len(), out);
+        left = left.after_first();
     }
 }
 

@@ -2,8 +2,7 @@
 -- of level 5, 0 for none. And the mark (rule 13.2): is every CTYPE in it clean, at every level?
 use Rattle.std.specs.Prelude.{ℕ, zero, suc, ◌-◌, Bool, true, false, ◌&&◌, List, take, drop}
 use Rattle.fields.specs.Checks.{or_else}
-use Rattle.fields.specs.declared.Checked.{Checked}
-use Rattle.fields.specs.Answer.{checked}
+use Rattle.fields.specs.Answer.{Checked, checked}
 use Rattle.pose.specs.TransformReader.{transform_fault}
 use Rattle.pose.specs.PositionReader.{position_fault}
 use Rattle.image.specs.ImageReader.{image_fault}

@@ -3,7 +3,7 @@
 use Rattle.std.specs.Prelude.{ℕ, ◌-◌, ◌≡◌, true, false, List, [], ◌∷◌, ◌++◌, map, length, replicate}
 use Prim.Native.Char.{code}
 use Prim.Native.String.{String, [] as no_more, ◌∷◌ as ◌before◌}
-use Rattle.fields.specs.declared.Checked.{Checked}
+use Rattle.fields.specs.Answer.{Checked}
 use Rattle.bind_layout.specs.Children.{Child, encode_children}
 use Rattle.content.specs.declared.Kind.TheVariants.{Transform, Position, Image, Bind, Other}
 use Rattle.content.specs.Kinds.{transform_text, position_text, image_text, bind_text, kind_of}

@@ -25,11 +25,9 @@ fn byte_step(start: u64, byte: u8) -> u64
 {
     let value = byte as u64;
     let mut register = start;
-    let mut i: u64 = 0;
-    while i < 8 {
+    for i in 0..8u64 {
         let shift = 7 - i;
         register = bit_step(register, (value >> shift) % 2);
-        i += 1;
     }
     register
 }
@@ -39,10 +37,8 @@ pub fn crc64(bytes: &[u8]) -> u64
     ensures { result ≡ crc_of bytes.now }
 {
     let mut register: u64 = 0;
-    let mut i = 0;
-    while i < bytes.len() {
-        register = byte_step(register, bytes[i]);
-        i += 1;
+    for byte in bytes {
+        register = byte_step(register, *byte);
     }
     register
 }

@@ -8,11 +8,10 @@ use Rattle.message.specs.declared.Answer.{Answer}
 use Rattle.message.specs.Message.{Parts}
 use Rattle.message.specs.MessageReader.{refused}
 use Rattle.message.specs.MessageWriter.{message_written, message_out}
-use Rattle.feed.specs.declared.PushAnswer.TheVariants.{Nothing, Read}
-use Rattle.feed.specs.declared.PushAnswer.TheVariants as pushing
+use Rattle.feed.specs.Feed.{Nothing, Read}
+use Rattle.feed.specs.Feed as pushing
 use Rattle.feed.specs.Push.{open_of}
-use Rattle.replay.specs.declared.CallAnswer.{CallAnswer}
-use Rattle.replay.specs.declared.CallAnswer.TheVariants.{Accepted, Added, Empty, Green, Grey, Refused, NoCall}
+use Rattle.replay.specs.Records.{CallAnswer, Accepted, Added, Empty, Green, Grey, Refused, NoCall}
 use Rattle.exports.specs.Exports.{mark_number, answer_bytes, message_given, WrittenAs, push_code, push_read, pushed_bytes, fed_total, fed_buffer, fed_bytes, answer_code, carried_number, answered_bytes, cursor_bytes, cursor_at}
 
 -- eight bytes, of which the last is this

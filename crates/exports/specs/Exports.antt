@@ -10,18 +10,14 @@ use Rattle.message.specs.declared.Answer.{Answer}
 use Rattle.message.specs.Message.{Parts}
 use Rattle.message.specs.MessageWriter.{given, message_written, message_out}
 use Rattle.message.specs.MessageReader as message
-use Rattle.feed.specs.declared.Feed.{Feed}
-use Rattle.feed.specs.declared.OpenAnswer.{OpenAnswer}
-use Rattle.feed.specs.declared.OpenAnswer.TheVariants as opening
-use Rattle.feed.specs.declared.PushAnswer.{PushAnswer}
-use Rattle.feed.specs.declared.PushAnswer.TheVariants.{Nothing, Read}
-use Rattle.feed.specs.declared.PushAnswer.TheVariants as pushing
-use Rattle.feed.specs.declared.PushResult.{PushResult}
+use Rattle.feed.specs.Feed.{Feed, PushAnswer, Nothing, Read, PushResult, push_answered}
+use Rattle.feed.specs.Opening.{OpenAnswer}
+use Rattle.feed.specs.Opening as opening
+use Rattle.feed.specs.Feed as pushing
 use Rattle.feed.specs.Push.{pushed, kept_len, push_of, buffer_of}
-use Rattle.exports.specs.declared.Fed.{Fed}
-use Rattle.replay.specs.declared.CallAnswer.{CallAnswer}
-use Rattle.replay.specs.declared.CallAnswer.TheVariants.{Accepted, Added, Empty, Green, Grey, Refused, NoCall}
-use Rattle.replay.specs.declared.Answered.{Answered}
+use Rattle.feed.specs.declared.Feed as code
+use Rattle.exports.specs.declared.Fed as given
+use Rattle.replay.specs.Records.{CallAnswer, Accepted, Added, Empty, Green, Grey, Refused, NoCall, Answered}
 
 -- ---- messages
 
@@ -72,6 +68,15 @@ push_read (pushing.Refused n) = message.refused n 0
 -- the fourteen numbers, which answer, how many bytes the push took, and how many are kept
 abbrev pub pushed_bytes : PushAnswer → ℕ → ℕ → List ℕ
 pushed_bytes a taken kept = answer_bytes (push_read a) ++ join (number_fields (replicate 3 8) (push_code a ∷ taken ∷ kept ∷ []))
+
+-- what the last push gave, and how many bytes all of them took
+pub record Fed : Type 0 where
+  pub last : PushResult
+  pub total : ℕ
+
+-- as the code gives it, with the feed that the pushes leave
+abbrev pub fed_as : code.Feed → given.Fed → Fed
+fed_as f r = record { last = push_answered f r.last; total = r.total }
 
 -- before the first push
 abbrev pub started : Feed → Fed

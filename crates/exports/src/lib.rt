@@ -3,7 +3,7 @@
 // number in eight bytes.
 #![tactic(auto)]
 
-ghost use Rattle.std.specs.Prelude.{◌≡◌, [], ◌∷◌, length, replicate};
+ghost use Rattle.std.specs.Prelude.{◌≡◌, [], ◌∷◌, ◌++◌, length, replicate};
 ghost use Rattle.std.proofs.lemmas.List.Edits.{sets};
 ghost use Rattle.fields.specs.Layout.{stores, number_fields};
 ghost use Rattle.crc64.specs.Crc.{crc_of};
@@ -11,13 +11,18 @@ ghost use Rattle.content.specs.ContentCheck.{content_fault, deepest};
 ghost use Rattle.bind_cursor.specs.Cursor.{first_of, next_of};
 ghost use Rattle.message.specs.LayoutNumber.{layout_of};
 ghost use Rattle.message.specs.MessageReader.{read_of};
+ghost use Rattle.feed.specs.Feed.{feed_of, answer_of, taken_of};
 ghost use Rattle.feed.specs.Push.{open_of};
+ghost use Rattle.replay.specs.Records.{answer_of as call_answer_of, answered_in};
 ghost use Rattle.replay.specs.Replay.{answer_at, look_after};
-ghost use Rattle.exports.specs.Exports.{field_numbers, part_numbers, mark_number, answer_bytes, message_given, WrittenAs, push_code, push_read, pushed_bytes, started, fed_by, fed_total, fed_buffer, fed_bytes, answer_code, carried_number, answered_fields, answered_bytes, cursor_numbers, cursor_bytes, cursor_at};
+ghost use Rattle.exports.specs.Exports.{field_numbers, part_numbers, mark_number, answer_bytes, message_given, WrittenAs, push_code, push_read, pushed_bytes, started, fed_as, fed_by, fed_total, fed_buffer, fed_bytes, answer_code, carried_number, answered_fields, answered_bytes, cursor_numbers, cursor_bytes, cursor_at};
 
 use bind_cursor::Cursor;
-use feed::{Feed, OpenAnswer, PushAnswer, PushResult};
-use message::{Answer, FixedFields};
+use feed::{Feed, Pushed};
+use fields::fault::Fault;
+use fields::number::Number;
+use message::{Answer, MessageFields};
+use panel::Value;
 use replay::{Answered, CallAnswer};
 
 // ---- the CRC and the contents
@@ -33,7 +38,7 @@ pub extern "C" fn kudireppa_crc64(bytes: &[u8]) -> u64
 pub extern "C" fn kudireppa_content_fault(type_text: &[u8], content: &[u8]) -> u8
     ensures { result ≡ content_fault deepest type_text.now content.now }
 {
-    content::content_fault(type_text, content)
+    fields::fault::number_of(content::content_fault(type_text, content))
 }
 
 // ---- messages
@@ -53,23 +58,23 @@ pub extern "C" fn kudireppa_read(layout: u8, stream: &[u8], number: &mut u8) -> 
 fn put_fields(answer: Answer, out: &mut [u8])
     ensures { out.new ≡ stores out.old 8 (number_fields (replicate 6 8) (field_numbers answer)) (replicate 6 8) }
 {
-    fields::number::put64(answer.step as u64, 8, out);
-    fields::number::put64(answer.version as u64, 16, out);
-    fields::number::put64(answer.type_len as u64, 24, out);
-    fields::number::put64(answer.name_len as u64, 32, out);
-    fields::number::put64(answer.time_stamp, 40, out);
-    fields::number::put64(answer.id as u64, 48, out);
+    (answer.step as u64).put(8, out);
+    (answer.version as u64).put(16, out);
+    (answer.type_len as u64).put(24, out);
+    (answer.name_len as u64).put(32, out);
+    answer.time_stamp.put(40, out);
+    (answer.id as u64).put(48, out);
 }
 
 fn put_parts(answer: Answer, out: &mut [u8])
     ensures { out.new ≡ stores out.old 56 (number_fields (replicate 6 8) (part_numbers answer)) (replicate 6 8) }
 {
-    fields::number::put64(answer.further_at as u64, 56, out);
-    fields::number::put64(answer.further_len as u64, 64, out);
-    fields::number::put64(answer.content_at as u64, 72, out);
-    fields::number::put64(answer.content_len as u64, 80, out);
-    fields::number::put64(answer.metadata_at as u64, 88, out);
-    fields::number::put64(answer.metadata_len as u64, 96, out);
+    (answer.further_at as u64).put(56, out);
+    (answer.further_len as u64).put(64, out);
+    (answer.content_at as u64).put(72, out);
+    (answer.content_len as u64).put(80, out);
+    (answer.metadata_at as u64).put(88, out);
+    (answer.metadata_len as u64).put(96, out);
 }
 
 // A mark as a number: 1 where it is true.
@@ -83,10 +88,10 @@ fn mark_number(mark: bool) -> u64
 fn put_answer(answer: Answer, out: &mut [u8])
     ensures { out.new ≡ sets out.old 0 (answer_bytes answer) }
 {
-    fields::number::put64(answer.number as u64, 0, out);
+    (answer.number as u64).put(0, out);
     put_fields(answer, out);
     put_parts(answer, out);
-    fields::number::put64(mark_number(answer.clean), 104, out);
+    mark_number(answer.clean).put(104, out);
 }
 
 // The answer to the front of a stream: 112 bytes.
@@ -117,24 +122,20 @@ pub extern "C" fn kudireppa_write(
         (message_given version time_stamp id type_text.now device_name.now further.now content.now metadata.now)
         out.old result number.new out.new }
 {
-    let fixed = FixedFields {
-        version: version,
-        time_stamp: time_stamp,
-        id: id,
-    };
-    let named = message::layout_of(layout as u64);
-    let written = message::write(
-        named,
-        fixed,
+    let message = MessageFields {
+        version,
+        time_stamp,
+        id,
         type_text,
         device_name,
         further,
         content,
         metadata,
-        out,
-    );
-    *number = written.number();
-    written.count()
+    };
+    let named = message::layout_of(layout as u64);
+    let written = message::write(named, message, out);
+    *number = fields::fault::number_of(written);
+    written.unwrap_or(0)
 }
 
 // ---- feeds
@@ -142,67 +143,72 @@ pub extern "C" fn kudireppa_write(
 // What the last push gave, and how many bytes all of them took.
 #[derive(Clone, Copy)]
 struct Fed {
-    last: PushResult,
+    last: Result<Pushed, Fault>,
     total: usize,
 }
 
-// Which answer, as a number.
-fn push_code(answer: PushAnswer) -> u64
-    ensures { result ≡ push_code answer }
+// How many bytes a push took.
+fn taken(push: Result<Pushed, Fault>) -> usize
+    ensures { result ≡ taken_of push }
 {
-    match answer {
-        PushAnswer::Nothing => 0,
-        PushAnswer::Read(_) => 1,
-        PushAnswer::Refused(_) => 2,
+    match push {
+        Ok(pushed) => pushed.taken,
+        Err(_) => 0,
+    }
+}
+
+// Which answer, as a number.
+fn push_code(push: Result<Pushed, Fault>) -> u64
+    ensures { result ≡ push_code (answer_of push) }
+{
+    match push {
+        Ok(pushed) => match pushed.read {
+            None => 0,
+            Some(_) => 1,
+        },
+        Err(_) => 2,
     }
 }
 
 // The reader's answer; of a refusal only the number.
-fn push_read(answer: PushAnswer) -> Answer
-    ensures { result ≡ push_read answer }
+fn push_read(push: Result<Pushed, Fault>) -> Answer
+    ensures { result ≡ push_read (answer_of push) }
 {
-    match answer {
-        PushAnswer::Nothing => message::refusal(0, 0),
-        PushAnswer::Read(read) => read,
-        PushAnswer::Refused(number) => message::refusal(number, 0),
+    match push {
+        Ok(pushed) => match pushed.read {
+            None => message::refusal(0, 0),
+            Some(answer) => answer,
+        },
+        Err(fault) => message::refusal(fault.number(), 0),
     }
 }
 
 // The fourteen numbers, which answer, how many bytes the push took, and how many the feed keeps: 136 bytes.
-fn put_pushed(answer: PushAnswer, taken: usize, kept: usize, out: &mut [u8])
-    ensures { out.new ≡ sets out.old 0 (pushed_bytes answer taken kept) }
+fn put_pushed(push: Result<Pushed, Fault>, kept: usize, out: &mut [u8])
+    ensures { out.new ≡ sets out.old 0 (pushed_bytes (answer_of push) (taken_of push) kept) }
 {
-    put_answer(push_read(answer), out);
-    fields::number::put64(push_code(answer), 112, out);
-    fields::number::put64(taken as u64, 120, out);
-    fields::number::put64(kept as u64, 128, out);
+    put_answer(push_read(push), out);
+    push_code(push).put(112, out);
+    (taken(push) as u64).put(120, out);
+    (kept as u64).put(128, out);
 }
 
 // Pushes the stream. Four bytes of `lengths` say how many bytes a push is offered, from the first one that was not taken yet.
-fn push_all(opened: Feed, lengths: &[u8], stream: &[u8], buffer: &mut [u8]) -> Fed
-    ensures result { result ≡ (fed_by lengths.now stream.now (started opened) buffer.old).0 }
-    ensures bytes { buffer.new ≡ (fed_by lengths.now stream.now (started opened) buffer.old).1 }
+fn push_all(feed: &mut Feed, lengths: &[u8], stream: &[u8], buffer: &mut [u8]) -> Fed
+    ensures result { fed_as feed.new result ≡ (fed_by lengths.now stream.now (started (feed_of feed.old)) buffer.old).0 }
+    ensures bytes { buffer.new ≡ (fed_by lengths.now stream.now (started (feed_of feed.old)) buffer.old).1 }
 {
-    let mut last = PushResult {
-        feed: opened,
-        answer: PushAnswer::Nothing,
+    let mut last = Ok(Pushed {
         taken: 0,
-    };
+        read: None,
+    });
     let mut total = 0;
-    let mut left = lengths;
-    while 4 <= left.len() {
-        let feed = last.feed;
-        let fragment = fields::slice::part(stream, total, fields::number::be32(left, 0) as usize);
-        let pushed = feed.push(fragment, &mut *buffer);
-        total += pushed.taken;
-        last = pushed;
-        let next = fields::slice::rest(left, 4);
-        left = next;
+    for length in lengths.chunks_exact(4) {
+        let fragment = fields::slice::part(stream, total, u32::read(length, 0) as usize);
+        last = feed.push(fragment, &mut *buffer);
+        total += taken(last);
     }
-    Fed {
-        last: last,
-        total: total,
-    }
+    Fed { last, total }
 }
 
 // Opens a feed over the buffer and pushes the stream to it, in pieces of these lengths. What the last push gave goes into `out`, or the
@@ -222,18 +228,15 @@ pub extern "C" fn kudireppa_feed(
         (fed_bytes (open_of (layout_of layout) (length buffer.old)) lengths.now stream.now buffer.old) }
 {
     let named = message::layout_of(layout as u64);
-    let opened = feed::open_feed(named, buffer);
-    match opened {
-        OpenAnswer::Opened(feed) => {
-            let fed = push_all(feed, lengths, stream, buffer);
-            let last = fed.last;
-            let after = last.feed;
-            let answer = last.answer;
-            put_pushed(answer, last.taken, after.kept_len(), out);
+    match feed::open_feed(named, buffer) {
+        Ok(opened) => {
+            let mut feed = opened;
+            let fed = push_all(&mut feed, lengths, stream, buffer);
+            put_pushed(fed.last, feed.kept_len(), out);
             fed.total
         }
-        OpenAnswer::Refused(number) => {
-            put_pushed(PushAnswer::Refused(number), 0, 0, out);
+        Err(fault) => {
+            put_pushed(Err(fault), 0, out);
             0
         }
     }
@@ -241,9 +244,9 @@ pub extern "C" fn kudireppa_feed(
 
 // ---- scripts of calls on a panel
 
-// Which answer, as a number.
+// Which answer, as a number: what other languages get.
 fn answer_code(answer: CallAnswer) -> u64
-    ensures { result ≡ answer_code answer }
+    ensures { result ≡ answer_code (call_answer_of answer) }
 {
     match answer {
         CallAnswer::Accepted => 0,
@@ -252,13 +255,12 @@ fn answer_code(answer: CallAnswer) -> u64
         CallAnswer::Green(_) => 3,
         CallAnswer::Grey(_) => 4,
         CallAnswer::Refused(_) => 5,
-        CallAnswer::NoCall => 6,
     }
 }
 
 // The tile, the age or the number that goes with it.
 fn carried_number(answer: CallAnswer) -> u64
-    ensures { result ≡ carried_number answer }
+    ensures { result ≡ carried_number (call_answer_of answer) }
 {
     match answer {
         CallAnswer::Accepted => 0,
@@ -267,7 +269,6 @@ fn carried_number(answer: CallAnswer) -> u64
         CallAnswer::Green(age) => age,
         CallAnswer::Grey(age) => age,
         CallAnswer::Refused(number) => number as u64,
-        CallAnswer::NoCall => 0,
     }
 }
 
@@ -278,16 +279,44 @@ fn put_value(bytes: [u8; panel::VALUE_SIZE], out: &mut [u8])
 }
 
 // Which answer, its number, the length of its value, and the value's 48 bytes: 72 bytes.
-fn put_answered(answered: Answered, out: &mut [u8])
-    ensures { out.new ≡ stores out.old 0 (answered_fields answered) (8 ∷ 8 ∷ 8 ∷ length answered.value.bytes ∷ []) }
+fn put_said(code: u64, number: u64, value: Value, out: &mut [u8])
+    ensures { out.new
+        ≡ stores out.old 0 (number_fields (replicate 3 8) (code ∷ number ∷ value.len ∷ []) ++ (value.bytes ∷ []))
+        (8 ∷ 8 ∷ 8 ∷ length value.bytes ∷ []) }
 {
-    let value = answered.value;
-    let answer = answered.answer;
-    let bytes = value.bytes;
-    fields::number::put64(answer_code(answer), 0, out);
-    fields::number::put64(carried_number(answer), 8, out);
-    fields::number::put64(value.len as u64, 16, out);
-    put_value(bytes, out);
+    code.put(0, out);
+    number.put(8, out);
+    (value.len as u64).put(16, out);
+    put_value(value.bytes, out);
+}
+
+// The same of what a call answered; 6 where there is no call.
+#[tactic(auto, unfolding(fields::specs::Bytes::sized))]
+fn put_answered(answered: Option<Answered>, out: &mut [u8])
+    ensures { out.new
+        ≡ stores out.old 0 (answered_fields (answered_in answered))
+        (8 ∷ 8 ∷ 8 ∷ length (answered_in answered).value.bytes ∷ []) }
+{
+    match answered {
+        Some(said) => put_said(
+            answer_code(said.answer),
+            carried_number(said.answer),
+            said.value,
+            out,
+        ),
+        None => {
+            let zeros = [0u8; panel::VALUE_SIZE];
+            put_said(
+                6,
+                0,
+                Value {
+                    bytes: zeros,
+                    len: 0,
+                },
+                out,
+            );
+        }
+    }
 }
 
 // What the call at a place of the script answers: 72 bytes.
@@ -303,7 +332,7 @@ pub extern "C" fn kudireppa_answer_at(script: &[u8], place: usize, out: &mut [u8
 pub extern "C" fn kudireppa_look_after(script: &[u8], tile: usize, clock: u64, out: &mut [u8])
     ensures { out.new ≡ sets out.old 0 (answered_bytes (look_after script.now tile clock)) }
 {
-    put_answered(replay::look_after(script, tile, clock), out);
+    put_answered(Some(replay::look_after(script, tile, clock)), out);
 }
 
 // ---- walks through the children of a BIND
@@ -312,15 +341,15 @@ pub extern "C" fn kudireppa_look_after(script: &[u8], tile: usize, clock: u64, o
 fn put_places(cursor: Cursor, mark: u64, out: &mut [u8])
     ensures { out.new ≡ stores out.old 0 (number_fields (replicate 9 8) (cursor_numbers cursor mark)) (replicate 9 8) }
 {
-    fields::number::put64(cursor.number as u64, 0, out);
-    fields::number::put64(cursor.left as u64, 8, out);
-    fields::number::put64(cursor.type_at as u64, 16, out);
-    fields::number::put64(cursor.type_len as u64, 24, out);
-    fields::number::put64(cursor.name_at as u64, 32, out);
-    fields::number::put64(cursor.name_len as u64, 40, out);
-    fields::number::put64(cursor.at as u64, 48, out);
-    fields::number::put64(cursor.len as u64, 56, out);
-    fields::number::put64(mark, 64, out);
+    (cursor.number as u64).put(0, out);
+    (cursor.left as u64).put(8, out);
+    (cursor.type_at as u64).put(16, out);
+    (cursor.type_len as u64).put(24, out);
+    (cursor.name_at as u64).put(32, out);
+    (cursor.name_len as u64).put(40, out);
+    (cursor.at as u64).put(48, out);
+    (cursor.len as u64).put(56, out);
+    mark.put(64, out);
 }
 
 // All nine: 72 bytes.
@@ -335,15 +364,15 @@ fn cursor_at(bytes: &[u8]) -> Cursor
     ensures { result ≡ cursor_at bytes.now }
 {
     Cursor {
-        number: fields::number::be8(bytes, 7),
-        left: fields::number::be64(bytes, 8) as usize,
-        type_at: fields::number::be64(bytes, 16) as usize,
-        type_len: fields::number::be64(bytes, 24) as usize,
-        name_at: fields::number::be64(bytes, 32) as usize,
-        name_len: fields::number::be64(bytes, 40) as usize,
-        at: fields::number::be64(bytes, 48) as usize,
-        len: fields::number::be64(bytes, 56) as usize,
-        clean: fields::number::be8(bytes, 71) != 0,
+        number: u8::read(bytes, 7),
+        left: u64::read(bytes, 8) as usize,
+        type_at: u64::read(bytes, 16) as usize,
+        type_len: u64::read(bytes, 24) as usize,
+        name_at: u64::read(bytes, 32) as usize,
+        name_len: u64::read(bytes, 40) as usize,
+        at: u64::read(bytes, 48) as usize,
+        len: u64::read(bytes, 56) as usize,
+        clean: u8::read(bytes, 71) != 0,
     }
 }
 

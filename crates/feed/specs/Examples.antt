@@ -9,9 +9,8 @@ use Rattle.message.specs.MessageReader.{refused}
 use Rattle.message.specs.Message.{WellFormed, encode}
 use Rattle.message.specs.Samples.{arm_message, arm_bytes, arm_answer, answer_of1, probe_bytes, probe_answer}
 use Rattle.message.specs.ReceivedSamples.{unclean, tracker_bytes}
-use Rattle.feed.specs.declared.Feed.{Feed}
-use Rattle.feed.specs.declared.OpenAnswer.TheVariants as opening
-use Rattle.feed.specs.declared.PushAnswer.TheVariants.{Read, Refused}
+use Rattle.feed.specs.Feed.{Feed, Read, Refused}
+use Rattle.feed.specs.Opening as opening
 use Rattle.feed.specs.Push.{open_of, pushed, kept_len, push_of, buffer_of}
 use Rattle.feed.specs.Runs.{Run, run}
 

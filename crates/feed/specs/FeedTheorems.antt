@@ -7,9 +7,8 @@ use Rattle.message.specs.declared.Layout.{Layout}
 use Rattle.message.specs.declared.Answer.{Answer}
 use Rattle.message.specs.Message.{WellFormed, Message, encode}
 use Rattle.message.specs.MessageReader.{read_of, refused}
-use Rattle.feed.specs.declared.Feed.{Feed}
-use Rattle.feed.specs.declared.OpenAnswer.TheVariants as opening
-use Rattle.feed.specs.declared.PushAnswer.TheVariants.{Nothing, Read, Refused}
+use Rattle.feed.specs.Feed.{Feed, Nothing, Read, Refused}
+use Rattle.feed.specs.Opening as opening
 use Rattle.feed.specs.Push.{open_of, kept_len, kept_in, push_of, buffer_of, pushed}
 use Rattle.feed.specs.Reading.{end_of, reading_of}
 use Rattle.feed.specs.Runs.{after, opened, run, read_by}

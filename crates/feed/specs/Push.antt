@@ -7,12 +7,9 @@ use Rattle.header.specs.HeaderReader.{header_fault}
 use Rattle.message.specs.declared.Layout.{Layout}
 use Rattle.message.specs.MessageReader.{read_of, refused}
 use Rattle.feed.specs.Reading.{end_of}
-use Rattle.feed.specs.declared.Feed.{Feed}
-use Rattle.feed.specs.declared.OpenAnswer.{OpenAnswer}
-use Rattle.feed.specs.declared.OpenAnswer.TheVariants as opening
-use Rattle.feed.specs.declared.PushAnswer.{PushAnswer}
-use Rattle.feed.specs.declared.PushAnswer.TheVariants.{Nothing, Read, Refused}
-use Rattle.feed.specs.declared.PushResult.{PushResult}
+use Rattle.feed.specs.Feed.{Feed, PushAnswer, Nothing, Read, Refused, PushResult}
+use Rattle.feed.specs.Opening.{OpenAnswer}
+use Rattle.feed.specs.Opening as opening
 
 -- ---- feeds
 

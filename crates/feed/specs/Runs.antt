@@ -3,9 +3,7 @@
 use Rattle.std.specs.Prelude.{ℕ, List, [], ◌∷◌, ◌++◌, length, take}
 use Rattle.message.specs.declared.Layout.{Layout}
 use Rattle.message.specs.declared.Answer.{Answer}
-use Rattle.feed.specs.declared.Feed.{Feed}
-use Rattle.feed.specs.declared.PushAnswer.{PushAnswer}
-use Rattle.feed.specs.declared.PushAnswer.TheVariants.{Nothing, Read, Refused}
+use Rattle.feed.specs.Feed.{Feed, PushAnswer, Nothing, Read, Refused}
 use Rattle.feed.specs.Reading.{Reading}
 use Rattle.feed.specs.Push.{keeping, kept_in, push_of, buffer_of}
 

@@ -2,246 +2,188 @@
 // the caller lends to each push and leaves alone in between.
 #![tactic(auto)]
 
-ghost use Rattle.std.specs.Prelude.{◌≡◌, ◌-◌, ◌≤◌, min, ◌++◌, length, take};
+ghost use Rattle.std.specs.Prelude.{◌≡◌, ◌-◌, ◌≤◌, ◌++◌, length, take, OnErr};
 ghost use Rattle.std.proofs.lemmas.List.Edits.{sets};
+ghost use Rattle.fields.specs.Fault.{number_of};
 ghost use Rattle.header.specs.Header.{header_size};
-ghost use Rattle.feed.specs.declared.PushAnswer.TheVariants.{Nothing, Read, Refused};
-ghost use Rattle.feed.specs.Push.{state_of, keeping, passing, stopped_feed, open_of, pushed, push_fault, kept_len, passed_of, fitting_of, taken_in, push_of, stored_to, buffer_of};
+ghost use Rattle.feed.specs.Feed.{feed_of, pushed_as, push_answered};
+ghost use Rattle.feed.specs.Opening.{opened_as};
+ghost use Rattle.feed.specs.Push.{open_of, push_fault, kept_len, passed_of, fitting_of, taken_in, push_of, stored_to, buffer_of};
 
+use fields::fault::Fault;
 use fields::room_fault;
 use fields::slice::first;
 use fields::store::put;
 use header::HEADER_SIZE;
-use message::{Layout, refusal};
+use message::{Answer, Layout, refusal};
+use std::num::NonZeroUsize;
 
-// The layout that messages are read in, the length of the buffer, and how many bytes of an unfinished message stand at its front. Of a message
-// that exceeds the buffer and is passed over: its length, and how many of its bytes are left; otherwise both are 0. And whether an answer was 2 or
-// 3. Each push gets the feed that the last one returned: an older copy stands for an older place in the stream. The opening names the layout that the
-// sender writes (rule 3.15).
+// How far a feed has come in the message at hand.
+#[derive(Clone, Copy)]
+enum State {
+    // So many bytes of it stand at the buffer's front.
+    Keeping { kept: usize },
+    // It has `step` bytes, more than the buffer, and is passed over; `left` of them are to come.
+    Passing { step: usize, left: NonZeroUsize },
+    // An answer was 2 or 3.
+    Stopped,
+}
+
+// The layout that messages are read in, the length of the buffer, and the state. Each push is of the feed that the last one left: an older copy
+// stands for an older place in the stream. The opening names the layout that the sender writes (rule 3.15).
 #[derive(Clone, Copy)]
 pub struct Feed {
     layout: Layout,
     room: usize,
-    kept: usize,
-    step: usize,
-    left: usize,
-    stopped: bool,
+    state: State,
 }
 
+// What a push gives: how many bytes of the fragment it took, and the answer to a message, or to a header that is refused, where there is one.
 #[derive(Clone, Copy)]
-pub enum OpenAnswer {
-    Opened(Feed),
-    Refused(u8),
-}
-
-// Of a push: no answer yet, or the answer to a message or to a header that is refused, or the push itself is refused.
-#[derive(Clone, Copy)]
-pub enum PushAnswer {
-    Nothing,
-    Read(message::Answer),
-    Refused(u8),
-}
-
-// The feed for the next push, the answer, and how many bytes of the fragment were taken.
-#[derive(Clone, Copy)]
-pub struct PushResult {
-    pub feed: Feed,
-    pub answer: PushAnswer,
+pub struct Pushed {
     pub taken: usize,
+    pub read: Option<Answer>,
 }
 
-// ---- feeds
-
-fn state(layout: Layout, room: usize, kept: usize, step: usize, left: usize, stopped: bool) -> Feed
-    ensures { result ≡ state_of layout room kept step left stopped }
-{
-    Feed {
-        layout: layout,
-        room: room,
-        kept: kept,
-        step: step,
-        left: left,
-        stopped: stopped,
-    }
-}
-
-fn keeping(layout: Layout, room: usize, kept: usize) -> Feed
-    ensures { result ≡ keeping layout room kept }
-{
-    state(layout, room, kept, 0, 0, false)
-}
-
-fn passing(layout: Layout, room: usize, step: usize, left: usize) -> Feed
-    ensures { result ≡ passing layout room step left }
-{
-    state(layout, room, 0, step, left, false)
-}
-
-fn stopped_feed(layout: Layout, room: usize) -> Feed
-    ensures { result ≡ stopped_feed layout room }
-{
-    state(layout, room, 0, 0, 0, true)
-}
-
-// Opens a feed that reads in this layout, over a buffer of at least 58 bytes; 20 for a shorter one. No byte of it is changed.
-pub fn open_feed(layout: Layout, buffer: &[u8]) -> OpenAnswer
-    ensures { result ≡ open_of layout (length buffer.now) }
+// Opens a feed that reads in this layout, over a buffer of at least 58 bytes. No byte of it is changed.
+pub fn open_feed(layout: Layout, buffer: &[u8]) -> Result<Feed, Fault>
+    ensures { opened_as result ≡ open_of layout (length buffer.now) }
 {
     let room = buffer.len();
-    let fault = room_fault(HEADER_SIZE, room);
-    if fault != 0 {
-        return OpenAnswer::Refused(fault);
-    }
-    OpenAnswer::Opened(keeping(layout, room, 0))
-}
-
-// ---- the results of a push
-
-fn waits(feed: Feed, taken: usize) -> PushResult
-    ensures { result ≡ pushed Nothing feed taken }
-{
-    PushResult {
-        feed: feed,
-        answer: PushAnswer::Nothing,
-        taken: taken,
-    }
-}
-
-fn answers(feed: Feed, answer: message::Answer, taken: usize) -> PushResult
-    ensures { result ≡ pushed (Read answer) feed taken }
-{
-    PushResult {
-        feed: feed,
-        answer: PushAnswer::Read(answer),
-        taken: taken,
-    }
-}
-
-fn refuses(feed: Feed, number: u8) -> PushResult
-    ensures { result ≡ pushed (Refused number) feed 0 }
-{
-    PushResult {
-        feed: feed,
-        answer: PushAnswer::Refused(number),
-        taken: 0,
-    }
-}
-
-// ---- a push
-
-fn least(a: usize, b: usize) -> usize
-    ensures { result ≡ min a b }
-{
-    if a <= b { a } else { b }
-}
-
-// How many bytes are missing behind those kept, up to this place; 0 where none are.
-fn missing(kept: usize, to: usize) -> usize
-    ensures { result ≡ to - kept }
-{
-    if to <= kept { 0 } else { to - kept }
-}
-
-// 21, then 20 for a buffer of another length than the feed's, or of fewer than 58 bytes.
-fn push_fault(feed: Feed, room: usize) -> u8
-    ensures { result ≡ push_fault feed room }
-{
-    if feed.stopped {
-        return 21;
-    }
-    if room != feed.room {
-        return 20;
-    }
-    room_fault(HEADER_SIZE, room)
-}
-
-// A fragment of n bytes, where a message of `step` bytes is passed over and `left` of them are to come.
-fn pass(layout: Layout, room: usize, step: usize, left: usize, n: usize) -> PushResult
-    ensures { result ≡ passed_of layout room step left n }
-{
-    if n < left {
-        return waits(passing(layout, room, step, left - n), n);
-    }
-    answers(keeping(layout, room, 0), refusal(20, step), left)
+    room_fault(HEADER_SIZE, room)?;
+    Ok(Feed {
+        layout,
+        room,
+        state: State::Keeping { kept: 0 },
+    })
 }
 
 // Stores the fragment behind the bytes kept, up to a place.
 fn fill(kept: usize, to: usize, fragment: &[u8], buffer: &mut [u8])
     ensures { buffer.new ≡ sets buffer.old kept (take (to - kept) fragment.now) }
 {
-    put(first(fragment, missing(kept, to)), kept, buffer);
-}
-
-// The header is whole and its message, which ends at `end`, fits the buffer.
-fn take_body(
-    layout: Layout,
-    kept: usize,
-    end: usize,
-    fragment: &[u8],
-    buffer: &mut [u8],
-) -> PushResult
-    requires { (kept ≤ length buffer.old) × (end ≤ length buffer.old) }
-    ensures answer { result ≡ fitting_of layout (length buffer.old) kept (length fragment.now) (take kept buffer.old ++ fragment.now) end }
-    ensures bytes { buffer.new ≡ sets buffer.old kept (take (end - kept) fragment.now) }
-{
-    let room = buffer.len();
-    let more = missing(kept, end);
-    fill(kept, end, fragment, buffer);
-    if fragment.len() < more {
-        return waits(keeping(layout, room, kept + fragment.len()), fragment.len());
-    }
-    let answer = message::read(layout, first(buffer, end));
-    answers(keeping(layout, room, 0), answer, more)
-}
-
-// What a push gives that is not refused, and does not begin in a message that is passed over.
-fn take_in(layout: Layout, kept: usize, fragment: &[u8], buffer: &mut [u8]) -> PushResult
-    requires { (header_size ≤ length buffer.old) × (kept ≤ length buffer.old) }
-    ensures answer { result ≡ taken_in layout (length buffer.old) kept (length fragment.now) (take kept buffer.old ++ fragment.now) }
-    ensures bytes { buffer.new
-        ≡ sets buffer.old kept (take (stored_to (length buffer.old) (take kept buffer.old ++ fragment.now) - kept) fragment.now) }
-{
-    let room = buffer.len();
-    let more = missing(kept, HEADER_SIZE);
-    fill(kept, HEADER_SIZE, fragment, buffer);
-    if fragment.len() < more {
-        return waits(keeping(layout, room, kept + fragment.len()), fragment.len());
-    }
-    let header = header::read_header(buffer);
-    let number = header.number;
-    if number != 0 {
-        return answers(stopped_feed(layout, room), refusal(number, 0), more);
-    }
-    let end = HEADER_SIZE + header.body_size;
-    if room < end {
-        return pass(layout, room, end, end - kept, fragment.len());
-    }
-    take_body(layout, kept, end, fragment, buffer)
+    put(first(fragment, to.saturating_sub(kept)), kept, buffer);
 }
 
 impl Feed {
     // How many bytes are kept; they are the buffer's first.
     pub fn kept_len(self) -> usize
-        ensures { result ≡ kept_len self }
+        ensures { result ≡ kept_len (feed_of self) }
     {
-        self.kept
+        match self.state {
+            State::Keeping { kept } => kept,
+            State::Passing { .. } | State::Stopped => 0,
+        }
     }
 
-    // Takes the fragment up to the end of one message, or of a header that is answered 2 or 3. 21 after such an answer; 20 for a buffer of
-    // another length than at the opening.
-    pub fn push(self, fragment: &[u8], buffer: &mut [u8]) -> PushResult
-        ensures result { result ≡ push_of self fragment.now buffer.old }
-        ensures bytes { buffer.new ≡ buffer_of self fragment.now buffer.old }
+    // FeedStopped, then NoRoom for a buffer of another length than the feed's, or of fewer than 58 bytes.
+    fn push_fault(&self, room: usize) -> Result<(), Fault>
+        ensures { number_of result ≡ push_fault (feed_of self.now) room }
     {
-        let room = buffer.len();
-        let fault = push_fault(self, room);
-        if fault != 0 {
-            return refuses(self, fault);
+        if let State::Stopped = self.state {
+            return Err(Fault::FeedStopped);
         }
-        let layout = self.layout;
-        if self.left != 0 {
-            return pass(layout, room, self.step, self.left, fragment.len());
+        if room != self.room {
+            return Err(Fault::NoRoom);
         }
-        take_in(layout, least(self.kept, room), fragment, buffer)
+        room_fault(HEADER_SIZE, room)
+    }
+
+    // A fragment of n bytes, where a message of `step` bytes is passed over and `left` of them are to come.
+    fn pass(&mut self, step: usize, left: usize, n: usize) -> Pushed
+        ensures { pushed_as self.new result ≡ passed_of self.old.layout self.old.room step left n }
+    {
+        match NonZeroUsize::new(left.saturating_sub(n)) {
+            Some(left) => {
+                self.state = State::Passing { step, left };
+                Pushed {
+                    taken: n,
+                    read: None,
+                }
+            }
+            None => {
+                self.state = State::Keeping { kept: 0 };
+                Pushed {
+                    taken: left,
+                    read: Some(refusal(20, step)),
+                }
+            }
+        }
+    }
+
+    // The header is whole and its message, which ends at `end`, fits the buffer. So many bytes were kept.
+    fn take_body(&mut self, kept: usize, end: usize, fragment: &[u8], buffer: &mut [u8]) -> Pushed
+        requires { (length buffer.old ≡ self.old.room) × (kept ≤ length buffer.old) × (end ≤ length buffer.old) }
+        ensures answer { pushed_as self.new result
+            ≡ fitting_of self.old.layout (length buffer.old) kept (length fragment.now) (take kept buffer.old ++ fragment.now) end }
+        ensures bytes { buffer.new ≡ sets buffer.old kept (take (end - kept) fragment.now) }
+    {
+        let more = end.saturating_sub(kept);
+        fill(kept, end, fragment, buffer);
+        if fragment.len() < more {
+            self.state = State::Keeping {
+                kept: kept + fragment.len(),
+            };
+            return Pushed {
+                taken: fragment.len(),
+                read: None,
+            };
+        }
+        self.state = State::Keeping { kept: 0 };
+        let answer = message::read(self.layout, first(buffer, end));
+        Pushed {
+            taken: more,
+            read: Some(answer),
+        }
+    }
+
+    // What a push gives that is not refused, and does not begin in a message that is passed over. So many bytes were kept.
+    fn take_in(&mut self, kept: usize, fragment: &[u8], buffer: &mut [u8]) -> Pushed
+        requires { (length buffer.old ≡ self.old.room) × (header_size ≤ length buffer.old) × (kept ≤ length buffer.old) }
+        ensures answer { pushed_as self.new result
+            ≡ taken_in self.old.layout (length buffer.old) kept (length fragment.now) (take kept buffer.old ++ fragment.now) }
+        ensures bytes { buffer.new
+            ≡ sets buffer.old kept (take (stored_to (length buffer.old) (take kept buffer.old ++ fragment.now) - kept) fragment.now) }
+    {
+        let more = HEADER_SIZE.saturating_sub(kept);
+        fill(kept, HEADER_SIZE, fragment, buffer);
+        if fragment.len() < more {
+            self.state = State::Keeping {
+                kept: kept + fragment.len(),
+            };
+            return Pushed {
+                taken: fragment.len(),
+                read: None,
+            };
+        }
+        let header = header::read_header(buffer);
+        let number = header.number;
+        if number != 0 {
+            self.state = State::Stopped;
+            return Pushed {
+                taken: more,
+                read: Some(refusal(number, 0)),
+            };
+        }
+        let end = HEADER_SIZE + header.body_size;
+        if self.room < end {
+            return self.pass(end, end - kept, fragment.len());
+        }
+        self.take_body(kept, end, fragment, buffer)
+    }
+
+    // Takes the fragment up to the end of one message, or of a header that is answered 2 or 3. FeedStopped after such an answer; NoRoom for a
+    // buffer of another length than at the opening. A push that is refused changes nothing.
+    pub fn push(&mut self, fragment: &[u8], buffer: &mut [u8]) -> Result<Pushed, Fault>
+        ensures result { push_answered self.new result ≡ push_of (feed_of self.old) fragment.now buffer.old }
+        ensures bytes { buffer.new ≡ buffer_of (feed_of self.old) fragment.now buffer.old }
+        ensures refused { OnErr result (self.new ≡ self.old) }
+    {
+        self.push_fault(buffer.len())?;
+        if let State::Passing { step, left } = self.state {
+            return Ok(self.pass(step, left.get(), fragment.len()));
+        }
+        let kept = self.kept_len().min(buffer.len());
+        Ok(self.take_in(kept, fragment, buffer))
     }
 }

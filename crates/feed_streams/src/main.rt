@@ -6,122 +6,127 @@
 // input's end cuts short ends the run.
 #![tactic(auto)]
 
-ghost use Rattle.std.specs.Prelude.{◌≡◌, IfOk, length, replicate};
+ghost use Rattle.std.specs.Prelude.{◌≡◌, IfOk, length};
+ghost use Rattle.feed.specs.Feed.{feed_of, taken_of};
 ghost use Rattle.feed.specs.Push.{push_of, buffer_of};
 
-use feed::{Feed, OpenAnswer, PushAnswer, PushResult};
+use feed::{Feed, Pushed};
+use fields::fault::Fault;
+use fields::number::Number;
 use message::Answer;
 use std::io;
+use vector_records::{Hex, ROOM, Records};
 
 // ---- answers
 
-fn print_word(rt: &impl Print, word: &[u8]) -> io::Result<()> {
-    rt.write_all(word)
-}
-
 // The fourteen numbers of an answer.
 fn print_read(rt: &impl Print, answer: Answer) -> io::Result<()> {
-    print_word(rt, b" read")?;
-    vector_records::print_number(rt, answer.number as u64)?;
-    vector_records::print_number(rt, answer.step as u64)?;
-    vector_records::print_number(rt, answer.version as u64)?;
-    vector_records::print_number(rt, answer.type_len as u64)?;
-    vector_records::print_number(rt, answer.name_len as u64)?;
-    vector_records::print_number(rt, answer.time_stamp)?;
-    vector_records::print_number(rt, answer.id as u64)?;
-    vector_records::print_number(rt, answer.further_at as u64)?;
-    vector_records::print_number(rt, answer.further_len as u64)?;
-    vector_records::print_number(rt, answer.content_at as u64)?;
-    vector_records::print_number(rt, answer.content_len as u64)?;
-    vector_records::print_number(rt, answer.metadata_at as u64)?;
-    vector_records::print_number(rt, answer.metadata_len as u64)?;
-    vector_records::print_mark(rt, answer.clean)
+    print!(rt; " read {} {}", answer.number, answer.step)?;
+    print!(rt;
+        " {} {} {}",
+        answer.version, answer.type_len, answer.name_len
+    )?;
+    print!(rt; " {} {}", answer.time_stamp, answer.id)?;
+    print!(rt; " {} {}", answer.further_at, answer.further_len)?;
+    print!(rt; " {} {}", answer.content_at, answer.content_len)?;
+    print!(rt; " {} {}", answer.metadata_at, answer.metadata_len)?;
+    vector_records::print_mark(rt, answer.clean)?;
+    println!(rt)
 }
 
-fn print_refused(rt: &impl Print, number: u8) -> io::Result<()> {
-    print_word(rt, b" refused")?;
-    vector_records::print_number(rt, number as u64)
+fn print_answer(rt: &impl Print, push: Result<Pushed, Fault>) -> io::Result<()> {
+    match push {
+        Ok(pushed) => match pushed.read {
+            None => println!(rt; " nothing"),
+            Some(answer) => print_read(rt, answer),
+        },
+        Err(fault) => println!(rt; " refused {}", fault.number()),
+    }
 }
 
-fn print_answer(rt: &impl Print, answer: PushAnswer) -> io::Result<()> {
-    match answer {
-        PushAnswer::Nothing => print_word(rt, b" nothing"),
-        PushAnswer::Read(read) => print_read(rt, read),
-        PushAnswer::Refused(number) => print_refused(rt, number),
+// How many bytes a push took.
+fn taken(push: Result<Pushed, Fault>) -> usize
+    ensures { result ≡ taken_of push }
+{
+    match push {
+        Ok(pushed) => pushed.taken,
+        Err(_) => 0,
     }
 }
 
 // The bytes taken, the bytes kept, and the answer.
-fn print_pushed(rt: &impl Print, pushed: PushResult) -> io::Result<()> {
-    let answer = pushed.answer;
-    let feed = pushed.feed;
-    let taken = pushed.taken;
-    print!(rt; "{taken}")?;
-    vector_records::print_number(rt, feed.kept_len() as u64)?;
-    print_answer(rt, answer)?;
-    vector_records::end_line(rt)
+fn print_pushed(rt: &impl Print, push: Result<Pushed, Fault>, kept: usize) -> io::Result<()> {
+    print!(rt; "{} {kept}", taken(push))?;
+    print_answer(rt, push)
 }
 
 // ---- pushes
 
-// Pushes a fragment, and prints what that gives.
-fn push(rt: &impl Print, feed: Feed, fragment: &[u8], buffer: &mut [u8]) -> io::Result<PushResult>
-    ensures result { IfOk result (λ pushed. pushed ≡ push_of feed fragment.now buffer.old) }
-    ensures bytes { buffer.new ≡ buffer_of feed fragment.now buffer.old }
+// Pushes a fragment, and prints what that gives. Gives how many bytes were taken.
+fn push(rt: &impl Print, feed: &mut Feed, fragment: &[u8], buffer: &mut [u8]) -> io::Result<usize>
+    ensures taken { IfOk result (λ taken. taken ≡ (push_of (feed_of feed.old) fragment.now buffer.old).taken) }
+    ensures feed { feed_of feed.new ≡ (push_of (feed_of feed.old) fragment.now buffer.old).feed }
+    ensures bytes { buffer.new ≡ buffer_of (feed_of feed.old) fragment.now buffer.old }
 {
-    let pushed = feed.push(fragment, buffer);
-    print_pushed(rt, pushed)?;
-    Ok(pushed)
+    let push = feed.push(fragment, buffer);
+    print_pushed(rt, push, feed.kept_len())?;
+    Ok(taken(push))
 }
 
-// Pushes a fragment, and what is not taken of it again. Gives the feed after that.
-fn push_whole(rt: &impl Print, feed: Feed, fragment: &[u8], buffer: &mut [u8]) -> io::Result<Feed> {
+// Pushes a fragment, and what is not taken of it again.
+fn push_whole(
+    rt: &impl Print,
+    feed: &mut Feed,
+    fragment: &[u8],
+    buffer: &mut [u8],
+) -> io::Result<()> {
+    // It goes on by what was taken, and counts no index.
     let mut left = fragment;
-    let mut last = push(rt, feed, left, &mut *buffer)?;
-    while 0 < last.taken && last.taken < left.len() {
-        let next = fields::slice::rest(left, last.taken);
-        left = next;
-        let after = last.feed;
-        let pushed = push(rt, after, left, &mut *buffer)?;
-        last = pushed;
+    let mut taken = push(rt, &mut *feed, left, &mut *buffer)?;
+    while 0 < taken && taken < left.len() {
+        left = fields::slice::rest(left, taken);
+        taken = push(rt, &mut *feed, left, &mut *buffer)?;
     }
-    let after_all = last.feed;
-    Ok(after_all)
+    Ok(())
+}
+
+// The pushes of a record, from the front on: the length of the buffer that is lent, and the fragment.
+#[derive(Clone, Copy)]
+struct Pushes<'a> {
+    left: &'a [u8],
+}
+
+impl<'a> Iterator for Pushes<'a> {
+    ghost use Rattle.std.specs.Iterator.{at_most};
+
+    type Item = (usize, &'a [u8]);
+
+    ghost remaining = { λ pushes. at_most (length pushes.left.now) };
+
+    fn next(&mut self) -> Option<(usize, &'a [u8])> {
+        if self.left.len() < 4 {
+            return None;
+        }
+        let room = usize::from(u16::read(self.left, 0));
+        let fragment = vector_records::field(&self.left[2..]);
+        self.left = vector_records::after_field(&self.left[2..]);
+        Some((room, fragment))
+    }
 }
 
 fn print_pushes(rt: &impl Print, opened: Feed, pushes: &[u8], lent: &mut [u8]) -> io::Result<()> {
     let mut feed = opened;
-    let mut left = pushes;
-    while 4 <= left.len() {
-        let room = fields::number::be16(left, 0) as usize;
+    for (room, fragment) in (Pushes { left: pushes }) {
         // Two bytes never say more than `lent` has.
         if lent.len() < room {
             return Ok(());
         }
-        let rest = fields::slice::rest(left, 2);
-        let after = push_whole(rt, feed, vector_records::field(rest), &mut lent[..room])?;
-        feed = after;
-        let next = vector_records::after_field(rest);
-        left = next;
+        push_whole(rt, &mut feed, fragment, &mut lent[..room])?;
     }
     Ok(())
 }
 
 // ---- records
-
-// The buffers that are lent for a record are the front of this.
-fn filled(fill: u8) -> [u8; 65536]
-    ensures bytes { result ≡ replicate 65536 fill }
-    ensures size { 65536 ≡ length result }
-{
-    [fill; 65536]
-}
-
-fn print_buffer(rt: &impl Print, buffer: &[u8]) -> io::Result<()> {
-    print_word(rt, b"buffer")?;
-    vector_records::print_bytes(rt, buffer)?;
-    vector_records::end_line(rt)
-}
 
 fn print_opened(
     rt: &impl Print,
@@ -130,49 +135,32 @@ fn print_opened(
     pushes: &[u8],
     lent: &mut [u8],
 ) -> io::Result<()> {
-    print_word(rt, b"opened\n")?;
+    println!(rt; "opened")?;
     print_pushes(rt, feed, pushes, &mut *lent)?;
-    print_buffer(rt, fields::slice::first(lent, room))
+    println!(rt; "buffer {}", Hex(fields::slice::first(lent, room)))
 }
 
-fn print_record(rt: &impl Print, number: u64, record: &[u8]) -> io::Result<()> {
-    print_word(rt, b"feed")?;
-    vector_records::print_number(rt, number)?;
-    vector_records::end_line(rt)?;
-    let layout = message::layout_of(fields::number::be8(record, 0) as u64);
-    let room = fields::number::be16(record, 1) as usize;
-    let mut lent = filled(fields::number::be8(record, 3));
-    let opened = feed::open_feed(layout, fields::slice::first(&lent, room));
-    match opened {
-        OpenAnswer::Opened(feed) => print_opened(
-            rt,
-            feed,
-            room,
-            fields::slice::rest(record, 4),
-            &mut lent,
-        ),
-        OpenAnswer::Refused(number) => {
-            print_word(rt, b"refused")?;
-            vector_records::print_number(rt, number as u64)?;
-            vector_records::end_line(rt)
-        }
+fn print_record(rt: &impl Print, number: usize, record: &[u8]) -> io::Result<()> {
+    println!(rt; "feed {number}")?;
+    let layout = message::layout_of(u64::from(u8::read(record, 0)));
+    let room = usize::from(u16::read(record, 1));
+    // The buffers that are lent for a record are the front of this.
+    let mut lent: [u8; 65536] = vector_records::filled(u8::read(record, 3));
+    match feed::open_feed(layout, fields::slice::first(&lent, room)) {
+        Ok(feed) => print_opened(rt, feed, room, fields::slice::rest(record, 4), &mut lent),
+        Err(fault) => println!(rt; "refused {}", fault.number()),
     }
 }
 
-fn print_records(rt: &impl Print, records: &[u8]) -> io::Result<()> {
-    let mut left = records;
-    let mut number = 0u64;
-    while vector_records::is_whole(left) {
-        print_record(rt, number, vector_records::field(left))?;
-        let next = vector_records::after_field(left);
-        left = next;
-        number += 1;
+fn print_records(rt: &impl Print, input: &[u8]) -> io::Result<()> {
+    for (number, record) in Records::new(input).enumerate() {
+        print_record(rt, number, record)?;
     }
     Ok(())
 }
 
 fn main(rt: HostRuntime) -> io::Result<()> {
-    let mut buffer = vector_records::buffer(0);
+    let mut buffer: [u8; ROOM] = vector_records::filled(0);
     let n = vector_records::read_full(&mut rt.stdin(), &mut buffer)?;
     print_records(&rt, &buffer[..n])
 }

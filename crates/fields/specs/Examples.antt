@@ -1,7 +1,8 @@
 -- What the definitions say of a few bytes, as one statement.
-use Rattle.std.specs.Prelude.{ℕ, ◌≡◌, true, false, List, [], ◌∷◌, map, eqb, leb, length, drop, replicate}
+use Rattle.std.specs.Prelude.{ℕ, ◌≡◌, true, false, Ok, Err, List, [], ◌∷◌, map, eqb, leb, length, drop, replicate}
 use Rattle.std.proofs.lemmas.List.Edits.{sets}
-use Rattle.fields.specs.declared.Written.TheVariants.{Wrote, Refused}
+use Rattle.fields.specs.Fault.{fault_number, number_of}
+use Rattle.fields.specs.declared.fault.Fault.TheVariants.{Incomplete, Names, BodySize, Version, Crc, ExtendedHeader, Metadata, PoseLength, Image, Bind, BindDepth, MoreBytes, NoTile, LinkDown, ClockBehind, NewTile, TileTaken, PanelFull, NotFound, NoRoom, FeedStopped}
 use Rattle.fields.specs.Bytes.{Bytes, part, same}
 use Rattle.fields.specs.Numbers.{be_val, be_bytes, be_at, size_limit}
 use Rattle.fields.specs.Text.{is_text, text_of, past_text, field_ok, text_bytes}
@@ -10,7 +11,7 @@ use Rattle.fields.specs.Tables.{counted, items_ok}
 use Rattle.fields.specs.Checks.{or_else}
 use Rattle.fields.specs.Layout.{numbers_at}
 use Rattle.fields.specs.Writers.{written_count_by, written_by, out_by}
-use Rattle.fields.specs.Answer.{checked, written_number, written_count, room_fault}
+use Rattle.fields.specs.Answer.{Wrote, Refused, checked, written_number, written_count, room_fault}
 
 -- ten bytes, each with a value of its own
 abbrev pub ten : List ℕ
@@ -55,6 +56,11 @@ pub record Examples : Type 0 where
   -- the rests begin with the first 0
   pub rests : map rest_of ((0x41 ∷ 0 ∷ 0x42 ∷ 0 ∷ []) ∷ (0 ∷ 0x41 ∷ []) ∷ (0x41 ∷ 0x42 ∷ []) ∷ []) ≡ (0 ∷ 0x42 ∷ 0 ∷ []) ∷ (0 ∷ 0x41 ∷ []) ∷ [] ∷ []
   pub rest_written : field_bytes 5 (0x41 ∷ 0x72 ∷ []) (0 ∷ 255 ∷ 1 ∷ []) ≡ 0x41 ∷ 0x72 ∷ 0 ∷ 255 ∷ 1 ∷ []
+  -- the refusals, each with its number, and an answer that is none
+  pub refusals : map fault_number
+      (Incomplete ∷ Names ∷ BodySize ∷ Version ∷ Crc ∷ ExtendedHeader ∷ Metadata ∷ PoseLength ∷ Image ∷ Bind ∷ BindDepth ∷ MoreBytes ∷ NoTile ∷ LinkDown ∷ ClockBehind ∷ NewTile ∷ TileTaken ∷ PanelFull ∷ NotFound ∷ NoRoom ∷ FeedStopped ∷ [])
+      ≡ 1 ∷ 2 ∷ 3 ∷ 4 ∷ 5 ∷ 6 ∷ 7 ∷ 8 ∷ 9 ∷ 10 ∷ 11 ∷ 12 ∷ 13 ∷ 14 ∷ 15 ∷ 16 ∷ 17 ∷ 18 ∷ 19 ∷ 20 ∷ 21 ∷ []
+  pub answers : map (number_of {A = ℕ}) (Ok 5 ∷ Err NoRoom ∷ []) ≡ 0 ∷ 20 ∷ []
   -- a refusal's mark is false
   pub checks : checked 0 true ∷ checked 0 false ∷ checked 2 true ∷ []
       ≡ record { number = 0; clean = true } ∷ record { number = 0; clean = false } ∷ record { number = 2; clean = false } ∷ []

@@ -9,6 +9,7 @@ pub mod Layout
 pub mod Tables
 pub mod Checks
 pub mod Formats
+pub mod Fault
 pub mod Answer
 pub mod Writers
 pub mod Examples

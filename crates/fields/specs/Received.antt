@@ -1,9 +1,9 @@
 -- A text field as it is received (rule 2.4): the bytes before its first 0 are its text, and what stands from that 0 on is its rest. The field is
 -- clean if its rest is zeros.
-use Rattle.std.specs.Prelude.{ℕ, ◌+◌, ◌≡◌, ◌⊎◌, ◌↔◌, true, false, cond, List, [], ◌∷◌, ◌++◌, length, drop, replicate}
+use Rattle.std.specs.Prelude.{ℕ, ◌+◌, ◌≡◌, ◌⊎◌, ◌↔◌, Bool, true, false, cond, List, Option, Some, None, [], ◌∷◌, ◌++◌, length, drop, replicate}
 use Rattle.fields.specs.Bytes.{Bytes, sized}
 use Rattle.fields.specs.Text.{Text, text_of, text_ok, field_ok, text_bytes}
-use Rattle.fields.specs.declared.text.TextField.{TextField}
+use Rattle.fields.specs.declared.text.TextField as declared
 
 -- from the first 0 on; nothing where the text fills the field
 abbrev pub rest_of : List ℕ → List ℕ
@@ -28,7 +28,17 @@ pub record Fills (w : ℕ) (t r : List ℕ) : Type 0 where
   pub bytes : Bytes r
   pub width : length t + length r ≡ w
 
--- what the reader of a field says of it
+-- what the reader of a field says of it: is it a text field, how long is its text, and is it clean? Of one that is not it says neither
+pub record TextField : Type 0 where
+  pub ok : Bool
+  pub len : ℕ
+  pub clean : Bool
+
+-- the same, of the reader's answer
+abbrev pub field_of : Option declared.TextField → TextField
+field_of (Some f) = record { ok = true; len = f.len; clean = f.clean }
+field_of None = record { ok = false; len = 0; clean = false }
+
 abbrev pub field_read : List ℕ → TextField
 field_read f = record { ok = text_ok f; len = cond (text_ok f) (length (text_of f)) 0; clean = field_ok f }
 

@@ -2,9 +2,7 @@
 -- is no fault it writes the bytes to the front of the buffer. Every writer of the crates above is one of these.
 use Rattle.std.specs.Prelude.{ℕ, ◌≤◌, ◌≡◌, cond, List, ◌++◌, eqb, length, take, drop}
 use Rattle.fields.specs.Checks.{or_else}
-use Rattle.fields.specs.Answer.{written_number, written_count, room_fault}
-use Rattle.fields.specs.declared.Written.{Written}
-use Rattle.fields.specs.declared.Written.TheVariants.{Wrote, Refused}
+use Rattle.fields.specs.Answer.{Written, Wrote, Refused, written_number, written_count, room_fault}
 
 -- the first fault, for a buffer of this length
 abbrev pub writer_fault : ℕ → List ℕ → ℕ → ℕ

@@ -3,77 +3,25 @@
 // the end leaves out what does not fit.
 #![tactic(auto)]
 
+pub mod fault;
 pub mod number;
 pub mod slice;
 pub mod store;
 pub mod text;
 
-ghost use Rattle.std.specs.Prelude.{◌&&◌, ◌≡◌};
-ghost use Rattle.fields.specs.Answer.{checked, written_number, written_count, room_fault};
+ghost use Rattle.std.specs.Prelude.{◌≡◌};
+ghost use Rattle.fields.specs.Answer.{room_fault};
+ghost use Rattle.fields.specs.Fault.{number_of};
 
-// The answer of a check: the number (rule 5.1), 0 for none, and the mark (rule 13.2), which says whether all texts checked are clean. A
-// refusal's mark is false (rule 13.3).
-#[derive(Clone, Copy)]
-pub struct Checked {
-    pub number: u8,
-    pub clean: bool,
-}
+use fault::Fault;
 
-// The answer with this number and this mark.
-pub fn marked(number: u8, mark: bool) -> Checked
-    ensures { result ≡ checked number mark }
+// Is there room for n bytes in a buffer of this length?
+pub fn room_fault(n: usize, room: usize) -> Result<(), Fault>
+    ensures { number_of result ≡ room_fault n room }
 {
-    if number == 0 {
-        return Checked {
-            number,
-            clean: mark,
-        };
+    if n <= room {
+        Ok(())
+    } else {
+        Err(Fault::NoRoom)
     }
-    Checked {
-        number,
-        clean: false,
-    }
-}
-
-// Are both true?
-pub fn both(a: bool, b: bool) -> bool
-    ensures { result ≡ (a && b) }
-{
-    if a { b } else { false }
-}
-
-// The answer of a writer: how many bytes it wrote, or the number of the refusal (rule 5.1).
-#[derive(Clone, Copy)]
-pub enum Written {
-    Wrote(usize),
-    Refused(u8),
-}
-
-impl Written {
-    // 0 where it wrote.
-    pub fn number(self) -> u8
-        ensures { result ≡ written_number self }
-    {
-        match self {
-            Written::Wrote(_) => 0,
-            Written::Refused(n) => n,
-        }
-    }
-
-    // 0 where it refused.
-    pub fn count(self) -> usize
-        ensures { result ≡ written_count self }
-    {
-        match self {
-            Written::Wrote(n) => n,
-            Written::Refused(_) => 0,
-        }
-    }
-}
-
-// 20 where a buffer of this length is too short for n bytes.
-pub fn room_fault(n: usize, room: usize) -> u8
-    ensures { result ≡ room_fault n room }
-{
-    if n <= room { 0 } else { 20 }
 }

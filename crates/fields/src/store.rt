@@ -11,36 +11,14 @@ pub fn put(src: &[u8], at: usize, out: &mut [u8])
         return;
     }
     let t = crate::slice::first(src, out.len() - at);
-    let mut i = 0;
-    while i < t.len() {
-        out[at + i] = t[i];
-        i += 1;
-    }
+    out[at..at + t.len()].copy_from_slice(t);
 }
 
-// The first 12 bytes of s, with zeros after them where there are fewer.
-pub fn array12(s: &[u8]) -> [u8; 12]
-    ensures { result ≡ sized 12 s.now }
+// The first N bytes of s, with zeros after them where there are fewer.
+pub fn array<const N: usize>(s: &[u8]) -> [u8; N]
+    ensures { result ≡ sized N s.now }
 {
-    let mut a = [0u8; 12];
-    put(s, 0, &mut a);
-    a
-}
-
-// The first 20 bytes of s, with zeros after them where there are fewer.
-pub fn array20(s: &[u8]) -> [u8; 20]
-    ensures { result ≡ sized 20 s.now }
-{
-    let mut a = [0u8; 20];
-    put(s, 0, &mut a);
-    a
-}
-
-// The first 48 bytes of s, with zeros after them where there are fewer.
-pub fn array48(s: &[u8]) -> [u8; 48]
-    ensures { result ≡ sized 48 s.now }
-{
-    let mut a = [0u8; 48];
+    let mut a = [0; N];
     put(s, 0, &mut a);
     a
 }

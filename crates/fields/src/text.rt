@@ -2,16 +2,15 @@
 ghost use Rattle.std.specs.Prelude.{◌≡◌, length};
 ghost use Rattle.std.proofs.lemmas.List.Edits.{sets};
 ghost use Rattle.fields.specs.Text.{is_text, text_of, past_text, all_zero, text_bytes};
-ghost use Rattle.fields.specs.Received.{field_read};
+ghost use Rattle.fields.specs.Received.{field_of, field_read};
 
 // The bytes of a text are below this, and none is 0.
 const TEXT_LIMIT: u8 = 128;
 
-// What a text field is: do bytes 1 to 127 stand before its first 0 (rule 2.4), how many, and are there only zeros from that 0 on, so that
-// it also keeps rule 2.2? Where `ok` is false, `len` is 0 and `clean` is false.
-#[derive(Clone, Copy)]
+// A field whose bytes before its first 0 are all 1 to 127 (rule 2.4): how many they are, and whether there are only zeros from that 0 on, so
+// that it also keeps rule 2.2.
+#[derive(Clone, Copy, Debug, PartialEq, Eq, Hash)]
 pub struct TextField {
-    pub ok: bool,
     pub len: usize,
     pub clean: bool,
 }
@@ -20,32 +19,19 @@ pub struct TextField {
 pub fn is_text(t: &[u8]) -> bool
     ensures { result ≡ is_text t.now }
 {
-    let mut i = 0;
-    while i < t.len() {
-        let b = t[i];
-        if b == 0 {
-            return false;
-        }
-        if TEXT_LIMIT <= b {
-            return false;
-        }
-        i += 1;
-    }
-    true
+    t.iter().all(|&b| 0 < b && b < TEXT_LIMIT)
 }
 
 // How many bytes stand before the first 0: the length of a field's text.
 pub fn text_len(s: &[u8]) -> usize
     ensures { result ≡ length (text_of s.now) }
 {
-    let mut i = 0;
-    while i < s.len() {
-        if s[i] == 0 {
+    for (i, &b) in s.iter().enumerate() {
+        if b == 0 {
             return i;
         }
-        i += 1;
     }
-    i
+    s.len()
 }
 
 // The bytes before the first 0: a field's text, a table's first name.
@@ -67,58 +53,24 @@ pub fn past_text(s: &[u8]) -> &[u8]
 pub fn all_zero(s: &[u8]) -> bool
     ensures { result ≡ all_zero s.now }
 {
-    let mut i = 0;
-    while i < s.len() {
-        if 0 < s[i] {
-            return false;
-        }
-        i += 1;
-    }
-    true
+    s.iter().all(|&b| b == 0)
 }
 
-// Reads the whole slice as a text field, each byte once.
-pub fn read_field(f: &[u8]) -> TextField
-    ensures { result ≡ field_read f.now }
+// Reads the whole slice as a text field, each byte once; None where it is not one.
+pub fn read_field(f: &[u8]) -> Option<TextField>
+    ensures { field_of result ≡ field_read f.now }
 {
-    let mut i = 0;
-    while i < f.len() {
-        let b = f[i];
+    for (i, &b) in f.iter().enumerate() {
         if b == 0 {
-            return TextField {
-                ok: true,
-                len: i,
-                clean: all_zero(crate::slice::rest(f, i + 1)),
-            };
+            let clean = all_zero(crate::slice::rest(f, i + 1));
+            return Some(TextField { len: i, clean });
         }
         if TEXT_LIMIT <= b {
-            return TextField {
-                ok: false,
-                len: 0,
-                clean: false,
-            };
+            return None;
         }
-        i += 1;
     }
-    TextField {
-        ok: true,
-        len: i,
+    Some(TextField {
+        len: f.len(),
         clean: true,
-    }
-}
-
-// Writes a text into a field of 12 bytes at a place: the text, then zeros. What does not fit the field is left out.
-pub fn put_text12(t: &[u8], at: usize, out: &mut [u8])
-    ensures { out.new ≡ sets out.old at (text_bytes 12 t.now) }
-{
-    let a = crate::store::array12(t);
-    crate::store::put(&a, at, out);
-}
-
-// The same for a field of 20 bytes.
-pub fn put_text20(t: &[u8], at: usize, out: &mut [u8])
-    ensures { out.new ≡ sets out.old at (text_bytes 20 t.now) }
-{
-    let a = crate::store::array20(t);
-    crate::store::put(&a, at, out);
+    })
 }

@@ -1,8 +1,7 @@
 -- A header byte by byte, read and written, with cleared text fields and with uncleared ones; each number of the reader and of the writer, and
 -- both sides of its limits; time stamps.
 use Rattle.std.specs.Prelude.{ℕ, ◌+◌, ◌-◌, ◌*◌, ◌^◌, ◌≡◌, Bool, true, false, List, [], ◌∷◌, ◌++◌, map, length, take, replicate}
-use Rattle.fields.specs.declared.Written.{Written}
-use Rattle.fields.specs.declared.Written.TheVariants.{Wrote, Refused}
+use Rattle.fields.specs.Answer.{Written, Wrote, Refused}
 use Rattle.header.specs.declared.HeaderRead.{HeaderRead}
 use Rattle.header.specs.Header.{Header, encode_header, cleaned_header}
 use Rattle.header.specs.HeaderReader.{header_of, limit_fault, header_read, type_in, name_in}

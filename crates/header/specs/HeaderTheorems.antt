@@ -2,13 +2,11 @@
 -- and it is what is handed out, marked clean exactly when its two rests are zeros; what is refused is 1, 2 or 3 in that order; the writer
 -- writes it back with its rests zeroed.
 use Rattle.std.specs.Prelude.{ℕ, ◌<◌, ◌≤◌, ◌≡◌, ◌↔◌, true, false, List, [], ◌++◌, length, take, drop}
-use Rattle.fields.specs.declared.Written.{Written}
-use Rattle.fields.specs.declared.Written.TheVariants.{Wrote}
 use Rattle.fields.specs.Bytes.{Bytes, part}
 use Rattle.fields.specs.Numbers.{be_at}
 use Rattle.fields.specs.Text.{Text}
 use Rattle.fields.specs.Received.{Rest}
-use Rattle.fields.specs.Answer.{written_number}
+use Rattle.fields.specs.Answer.{Written, Wrote, written_number}
 use Rattle.fields.specs.Writers.{writer_fault}
 use Rattle.header.specs.Header.{Header, WellTexts, HeaderFits, WellHeader, encode_header, body_limit, cleaned_header, CleanHeader}
 use Rattle.header.specs.HeaderReader.{header_of, header_fault, handed, refused, header_read, type_in, name_in}

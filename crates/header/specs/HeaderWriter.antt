@@ -4,7 +4,7 @@ use Rattle.fields.specs.Numbers.{be_bytes}
 use Rattle.fields.specs.Text.{is_text, text_bytes}
 use Rattle.fields.specs.Checks.{or_else}
 use Rattle.fields.specs.Writers.{written_by, out_by, WriterPromise}
-use Rattle.fields.specs.declared.Written.{Written}
+use Rattle.fields.specs.Answer.{Written}
 use Rattle.header.specs.declared.HeaderFields.{HeaderFields}
 use Rattle.header.specs.Header.{type_size, name_size, Header, encode_header}
 use Rattle.header.specs.HeaderReader.{limit_fault}

@@ -3,18 +3,21 @@
 
 pub mod time_stamp;
 
-ghost use Rattle.std.specs.Prelude.{cond, ◌≡◌};
+ghost use Rattle.std.specs.Prelude.{◌≡◌};
 ghost use Rattle.fields.specs.Checks.{or_else};
-ghost use Rattle.fields.specs.Answer.{room_fault};
+ghost use Rattle.fields.specs.Answer.{written_of, room_fault};
+ghost use Rattle.fields.specs.Fault.{number_of};
 ghost use Rattle.fields.specs.Layout.{stores};
 ghost use Rattle.header.specs.Header.{header_size, header_widths};
 ghost use Rattle.header.specs.HeaderReader.{header_of, limit_fault, handed_with, refused, header_read, type_in, name_in};
 ghost use Rattle.header.specs.HeaderWriter.{names_fault, given, given_fields, HeaderPromise};
 
-use fields::number::{be16, be64, put16, put64};
+use fields::fault::Fault;
+use fields::number::Number;
+use fields::room_fault;
 use fields::slice::part;
-use fields::text::{is_text, put_text12, put_text20, read_field};
-use fields::{Written, both, room_fault};
+use fields::store::{array, put};
+use fields::text::{is_text, read_field};
 
 // The size of a header (rule 3.1), that of its two text fields, and the largest BODY_SIZE (rule 3.3).
 pub const HEADER_SIZE: usize = 58;
@@ -66,27 +69,19 @@ pub fn device_name(stream: &[u8], header: HeaderRead) -> &[u8]
 fn size_at(stream: &[u8]) -> usize
     ensures { result ≡ (header_of stream.now).body_size }
 {
-    be64(stream, 42) as usize
+    u64::read(stream, 42) as usize
 }
 
 // 3 for a BODY_SIZE that breaks rule 3.3.
-fn limit_fault(size: usize) -> u8
-    ensures { result ≡ limit_fault size }
+#[tactic(auto, unfolding(crate::specs::HeaderReader::limit_fault))]
+fn limit_fault(size: usize) -> Result<(), Fault>
+    ensures { number_of result ≡ limit_fault size }
 {
     if size <= BODY_LIMIT {
-        return 0;
+        Ok(())
+    } else {
+        Err(Fault::BodySize)
     }
-    3
-}
-
-// 2 where TYPE or DEVICE_NAME breaks rule 2.4, then 3.
-fn fields_fault(texts_ok: bool, body_size: usize) -> u8
-    ensures { result ≡ or_else (cond texts_ok 0 2) (limit_fault body_size) }
-{
-    if !texts_ok {
-        return 2;
-    }
-    limit_fault(body_size)
 }
 
 // The answer of a refusal: its number, and all else 0.
@@ -111,12 +106,12 @@ fn handed(stream: &[u8], type_len: usize, name_len: usize, clean: bool) -> Heade
 {
     HeaderRead {
         number: 0,
-        version: be16(stream, 0),
+        version: u16::read(stream, 0),
         type_len,
         name_len,
-        time_stamp: be64(stream, 34),
+        time_stamp: u64::read(stream, 34),
         body_size: size_at(stream),
-        crc: be64(stream, 50),
+        crc: u64::read(stream, 50),
         clean,
     }
 }
@@ -128,47 +123,46 @@ pub fn read_header(stream: &[u8]) -> HeaderRead
     if stream.len() < HEADER_SIZE {
         return refused(1);
     }
-    let type_field = read_field(part(stream, 2, TYPE_SIZE));
-    let name_field = read_field(part(stream, 14, NAME_SIZE));
-    let fault = fields_fault(both(type_field.ok, name_field.ok), size_at(stream));
-    if fault != 0 {
-        return refused(fault);
+    let Some(type_field) = read_field(part(stream, 2, TYPE_SIZE)) else {
+        return refused(2);
+    };
+    let Some(name_field) = read_field(part(stream, 14, NAME_SIZE)) else {
+        return refused(2);
+    };
+    if let Err(fault) = limit_fault(size_at(stream)) {
+        return refused(fault.number());
     }
-    let clean = both(type_field.clean, name_field.clean);
+    let clean = type_field.clean & name_field.clean;
     handed(stream, type_field.len, name_field.len, clean)
 }
 
 // 2 where these are no names for a writer (rule 5.8): texts of at most 12 bytes for TYPE and 20 for DEVICE_NAME.
-pub fn names_fault(type_text: &[u8], device_name: &[u8]) -> u8
-    ensures { result ≡ names_fault type_text.now device_name.now }
+#[tactic(auto, unfolding(crate::specs::HeaderWriter::names_fault))]
+pub fn names_fault(type_text: &[u8], device_name: &[u8]) -> Result<(), Fault>
+    ensures { number_of result ≡ names_fault type_text.now device_name.now }
 {
-    if TYPE_SIZE < type_text.len() {
-        return 2;
+    if type_text.len() <= TYPE_SIZE
+        && device_name.len() <= NAME_SIZE
+        && is_text(type_text)
+        && is_text(device_name)
+    {
+        Ok(())
+    } else {
+        Err(Fault::Names)
     }
-    if NAME_SIZE < device_name.len() {
-        return 2;
-    }
-    if !is_text(type_text) {
-        return 2;
-    }
-    if !is_text(device_name) {
-        return 2;
-    }
-    0
 }
 
 // 2, 3, then 20 for a buffer of this length.
-fn write_fault(header: HeaderFields, type_text: &[u8], device_name: &[u8], room: usize) -> u8
-    ensures { result ≡ or_else (names_fault type_text.now device_name.now) (or_else (limit_fault header.body_size) (room_fault header_size room)) }
+fn write_fault(
+    header: HeaderFields,
+    type_text: &[u8],
+    device_name: &[u8],
+    room: usize,
+) -> Result<(), Fault>
+    ensures { number_of result ≡ or_else (names_fault type_text.now device_name.now) (or_else (limit_fault header.body_size) (room_fault header_size room)) }
 {
-    let names = names_fault(type_text, device_name);
-    if names != 0 {
-        return names;
-    }
-    let limit = limit_fault(header.body_size);
-    if limit != 0 {
-        return limit;
-    }
+    names_fault(type_text, device_name)?;
+    limit_fault(header.body_size)?;
     room_fault(HEADER_SIZE, room)
 }
 
@@ -177,12 +171,12 @@ fn put_header(header: HeaderFields, type_text: &[u8], device_name: &[u8], out: &
     ensures { out.new
         ≡ stores out.old 0 (given_fields header type_text.now device_name.now) header_widths }
 {
-    put16(header.version, 0, out);
-    put_text12(type_text, 2, out);
-    put_text20(device_name, 14, out);
-    put64(header.time_stamp, 34, out);
-    put64(header.body_size as u64, 42, out);
-    put64(header.crc, 50, out);
+    header.version.put(0, out);
+    put(&array::<TYPE_SIZE>(type_text), 2, out);
+    put(&array::<NAME_SIZE>(device_name), 14, out);
+    header.time_stamp.put(34, out);
+    (header.body_size as u64).put(42, out);
+    header.crc.put(50, out);
 }
 
 // Writes a header at the front of the buffer, or nothing where it refuses.
@@ -191,13 +185,10 @@ pub fn write_header(
     type_text: &[u8],
     device_name: &[u8],
     out: &mut [u8],
-) -> Written
-    ensures { HeaderPromise (given header type_text.now device_name.now) out.old result out.new }
+) -> Result<usize, Fault>
+    ensures { HeaderPromise (given header type_text.now device_name.now) out.old (written_of result) out.new }
 {
-    let fault = write_fault(header, type_text, device_name, out.len());
-    if fault != 0 {
-        return Written::Refused(fault);
-    }
+    write_fault(header, type_text, device_name, out.len())?;
     put_header(header, type_text, device_name, out);
-    Written::Wrote(HEADER_SIZE)
+    Ok(HEADER_SIZE)
 }

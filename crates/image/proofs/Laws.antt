@@ -2,17 +2,20 @@
 use Prim.Native.Nat.{ℕ, ◌+◌, ◌-◌, ◌≤◌}
 use mathlib.Core.Path.{◌≡◌, refl, sym, ap, ap₂, ◌∙◌}
 use mathlib.Core.Logic.{inl, inr}
-use mathlib.Core.Bool.{Bool, true, false, cond}
+use mathlib.Core.Bool.{Bool, true, false, cond, false≢true}
 use mathlib.Core.List.{List, [], ◌++◌}
 use native.Mathlib.Omega.{arith}
 use lib.Dec.{leb}
 use lib.ListN.{length, take, drop, length-drop}
 use borrow.Author.Tests.{leb-true, le-leb, eq-eqb, ne_eqb}
-use Rattle.fields.specs.declared.Written.TheVariants.{Wrote}
 use Rattle.fields.specs.Bytes.{Bytes}
 use Rattle.fields.specs.Checks.{or_else}
 use Rattle.fields.specs.Formats.{TwoWay}
-use Rattle.fields.specs.Answer.{written_number, room_fault}
+use Rattle.std.specs.Prelude.{Result, Ok, Err, IsErr}
+use Rattle.fields.specs.declared.fault.Fault.{Fault}
+use Rattle.fields.specs.Fault.{number_of}
+use Rattle.fields.proofs.Laws.Answer.{fault_some}
+use Rattle.fields.specs.Answer.{Wrote, written_number, room_fault}
 use Rattle.fields.specs.Writers.{writer_fault, WriterTheorems}
 use Rattle.fields.proofs.Laws.Bytes.{bytes_drop}
 use Rattle.fields.proofs.Laws.Checks.{cond-pass, cond-refused}
@@ -20,9 +23,8 @@ use Rattle.fields.proofs.Laws.Formats.{two_way}
 use Rattle.fields.proofs.Laws.Tests.{by_zero, cond_yes}
 use Rattle.fields.proofs.Laws.Writers.{writer-passed, out-front, writer-theorems}
 use Rattle.image.specs.declared.ImageHeader.{ImageHeader}
-use Rattle.image.specs.declared.ImageRead.{ImageRead}
 use Rattle.image.specs.Image.{Image, image_of_parts, encode_image, HeaderFits, WellImage}
-use Rattle.image.specs.ImageReader.{header_ok, rule_fault, header_of, image_fault, no_header, image_of, pixels_of}
+use Rattle.image.specs.ImageReader.{ImageRead, image_read, header_ok, rule_fault, header_of, image_fault, no_header, image_of, pixels_of}
 use Rattle.image.specs.ImageWriter.{image_written, image_out}
 use Rattle.image.specs.ImageTheorems.{ImageTheorems}
 use Rattle.image.proofs.Header.{length-image, pixels-front, encode-parts, header-fits, header-front}
@@ -89,7 +91,7 @@ unfolding image_of
 read-refused c h =
     ap {B = ImageRead} (λ (t : Bool). record { number = image_fault c; header = cond t (header_of c) no_header }) (ne_eqb (image_fault c) 0 h)
 
-read-accepted : (c : List ℕ) → image_fault c ≡ 0 → image_of c ≡ record { number = 0; header = header_of c }
+pub read-accepted : (c : List ℕ) → image_fault c ≡ 0 → image_of c ≡ record { number = 0; header = header_of c }
 read-accepted c h = read_kept c h ∙ ap {B = ImageRead} (λ (n : ℕ). record { number = n; header = header_of c }) h
 
 pub pixels-accepted : (c : List ℕ) → image_fault c ≡ 0 → pixels_of c ≡ drop 72 c
@@ -99,6 +101,11 @@ pixels-accepted c h = ap (λ (t : Bool). cond t (drop 72 c) []) (eq-eqb (image_f
 pub pixels-refused : (c : List ℕ) → (image_fault c ≡ 0 → ⊥) → pixels_of c ≡ []
 unfolding pixels_of
 pixels-refused c h = ap (λ (t : Bool). cond t (drop 72 c) []) (ne_eqb (image_fault c) 0 h)
+
+pub refused-image : (c : List ℕ) (r : Result ImageHeader Fault) → IsErr r → number_of r ≡ image_fault c → image_read r ≡ image_of c
+refused-image c (Ok h) e n = absurd (false≢true e)
+refused-image c (Err f) e n =
+    ap {B = ImageRead} (λ (k : ℕ). record { number = k; header = no_header }) n ∙ sym (read-refused c (λ z. fault_some f (n ∙ z)))
 
 -- bytes of an image, if they are accepted, are read as that image
 read-encoded : (x : Image) → HeaderFits x.header → image_fault (encode_image x) ≡ 0 → image_of (encode_image x) ≡ record { number = 0; header = x.header }

@@ -44,9 +44,9 @@ scalar_size_lem uint32 = refl
 scalar_size_lem float32 = refl
 scalar_size_lem float64 = refl
 
-pub scalar-le : (s : ℕ) → scalar_size s ≤ 8
+pub scalar_le : (s : ℕ) → scalar_size s ≤ 8
 unfolding scalar_size
-scalar-le = at_place (λ i n. n ≤ 8) scalar_sizes (omega arith) (λ i. omega arith)
+scalar_le = at_place (λ i n. n ≤ 8) scalar_sizes (omega arith) (λ i. omega arith)
 
 -- ---- the fields of a header
 

@@ -1,7 +1,7 @@
 -- The layout of a header, byte by byte; case P9; both sides of each limit of the rule; what a refusal hands out.
 use Rattle.std.specs.Prelude.{ℕ, ◌≡◌, List, [], ◌∷◌, ◌++◌, map, length, take, drop, replicate}
 use Rattle.std.proofs.lemmas.List.Edits.{sets}
-use Rattle.fields.specs.declared.Written.TheVariants.{Wrote, Refused}
+use Rattle.fields.specs.Answer.{Wrote, Refused}
 use Rattle.image.specs.declared.ImageHeader.{ImageHeader}
 use Rattle.image.specs.Image.{encode_image, image_of_parts}
 use Rattle.image.specs.ImageReader.{image_fault, image_of, pixels_of}

@@ -1,8 +1,9 @@
 -- The check of an IMAGE, and what its reader hands out.
-use Rattle.std.specs.Prelude.{ℕ, ◌+◌, ◌-◌, ◌*◌, Bool, cond, ◌&&◌, ◌||◌, List, [], ◌∷◌, eqb, leb, length, get_or, drop}
+use Rattle.std.specs.Prelude.{ℕ, Result, Ok, Err, ◌+◌, ◌-◌, ◌*◌, Bool, cond, ◌&&◌, ◌||◌, List, [], ◌∷◌, eqb, leb, length, get_or, drop}
 use Rattle.fields.specs.Numbers.{be_at}
+use Rattle.fields.specs.declared.fault.Fault.{Fault}
+use Rattle.fields.specs.Fault.{fault_number}
 use Rattle.image.specs.declared.ImageHeader.{ImageHeader}
-use Rattle.image.specs.declared.ImageRead.{ImageRead}
 use Rattle.image.specs.Image.{along, image_header_size}
 
 -- ---- the check: 9 for any fault
@@ -85,6 +86,15 @@ no_header =
       offset = 0 ∷ 0 ∷ 0 ∷ [];
       sub_size = 0 ∷ 0 ∷ 0 ∷ [];
     }
+
+pub record ImageRead : Type 0 where
+  pub number : ℕ
+  pub header : ImageHeader
+
+-- the code's answer
+abbrev pub image_read : Result ImageHeader Fault → ImageRead
+image_read (Ok h) = record { number = 0; header = h }
+image_read (Err f) = record { number = fault_number f; header = no_header }
 
 unfoldable pub image_of : List ℕ → ImageRead
 image_of c = record { number = image_fault c; header = cond (eqb (image_fault c) 0) (header_of c) no_header }

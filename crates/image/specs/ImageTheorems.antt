@@ -2,10 +2,8 @@
 use Rattle.std.specs.Prelude.{ℕ, ◌+◌, ◌≤◌, ◌≡◌, List, [], ◌++◌, length, take, drop}
 use Rattle.fields.specs.Bytes.{Bytes}
 use Rattle.fields.specs.Formats.{TwoWay}
-use Rattle.fields.specs.Answer.{written_number}
+use Rattle.fields.specs.Answer.{Written, Wrote, written_number}
 use Rattle.fields.specs.Writers.{writer_fault}
-use Rattle.fields.specs.declared.Written.{Written}
-use Rattle.fields.specs.declared.Written.TheVariants.{Wrote}
 use Rattle.image.specs.declared.ImageHeader.{ImageHeader}
 use Rattle.image.specs.Image.{Image, image_of_parts, encode_image, HeaderFits, WellImage}
 use Rattle.image.specs.ImageReader.{image_fault, no_header, image_of, pixels_of}

@@ -1,7 +1,7 @@
 -- The writer of a header and pixels into a buffer: the rule's fault, then 20.
 use Rattle.std.specs.Prelude.{ℕ, List, length}
 use Rattle.fields.specs.Writers.{written_by, out_by, WriterPromise}
-use Rattle.fields.specs.declared.Written.{Written}
+use Rattle.fields.specs.Answer.{Written}
 use Rattle.image.specs.declared.ImageHeader.{ImageHeader}
 use Rattle.image.specs.Image.{image_of_parts, encode_image}
 use Rattle.image.specs.ImageReader.{rule_fault}

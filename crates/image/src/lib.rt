@@ -2,24 +2,26 @@
 // A float is a u32 word, the number that its bits spell (rule 4.4).
 #![tactic(auto)]
 
-ghost use Rattle.std.specs.Prelude.{◌≡◌, ◌+◌, ◌*◌, ◌^◌, ◌≤◌, ◌<◌, [], ◌∷◌, take, drop, replicate};
+ghost use Rattle.std.specs.Prelude.{◌≡◌, ◌+◌, ◌*◌, ◌^◌, ◌≤◌, ◌<◌, [], ◌∷◌, take, drop, replicate, OnOk};
 ghost use Rattle.fields.specs.Layout.{number_fields, stores};
 ghost use Rattle.fields.specs.Checks.{or_else};
-ghost use Rattle.fields.specs.Answer.{room_fault};
+ghost use Rattle.fields.specs.Answer.{written_of, room_fault};
+ghost use Rattle.fields.specs.Fault.{number_of};
 ghost use Rattle.image.specs.Image.{three, header_numbers, header_widths, image_header_size};
-ghost use Rattle.image.specs.ImageReader.{scalar_size, one_or_two, kind_ok, within, direction_ok, directions_ok, pixel_bytes, rule_fault, header_of, image_fault, no_header, image_of, pixels_of};
+ghost use Rattle.image.specs.ImageReader.{scalar_size, one_or_two, kind_ok, within, direction_ok, directions_ok, pixel_bytes, rule_fault, header_of, image_fault, image_read, image_of, pixels_of};
 ghost use Rattle.image.specs.ImageWriter.{ImagePromise};
 
-use fields::number::{be8, be16, halves3, put8, put16, put32, words3};
+use fields::fault::Fault;
+use fields::number::{Number, three};
+use fields::room_fault;
 use fields::slice::{first, rest};
 use fields::store::put;
-use fields::{Written, room_fault};
 
 // The bytes before the pixels (rule 4.5).
 pub const IMAGE_HEADER_SIZE: usize = 72;
 
 // The 72 bytes before the pixels (rule 4.5), each field with the protocol's name for it.
-#[derive(Clone, Copy)]
+#[derive(Clone, Copy, Default)]
 pub struct ImageHeader {
     // V: any
     pub version: u16,
@@ -44,83 +46,54 @@ pub struct ImageHeader {
     pub sub_size: [u16; 3],
 }
 
-// The header is all zeros where the number is not 0.
-#[derive(Clone, Copy)]
-pub struct ImageRead {
-    pub number: u8,
-    pub header: ImageHeader,
-}
-
 // The bytes of one scalar of type S; 0 where there is no such type.
+#[tactic(auto, using(crate::proofs::Rule::scalar_le), unfolding(crate::specs::ImageReader::scalar_size))]
 fn scalar_size(s: u8) -> usize
     ensures value { result ≡ scalar_size s }
     ensures bound { result ≤ 8 }
 {
     let sizes = [0usize, 0, 1, 1, 2, 2, 4, 4, 0, 0, 4, 8];
-    if s < 12 {
-        return sizes[s as usize];
-    }
-    0
+    sizes.get(usize::from(s)).copied().unwrap_or(0)
 }
 
 fn one_or_two(n: u8) -> bool
     ensures { result ≡ one_or_two n }
 {
-    if n == 1 {
-        return true;
-    }
-    n == 2
+    matches!(n, 1 | 2)
 }
 
 // T, S, E and O.
+#[tactic(auto, unfolding(crate::specs::ImageReader::kind_ok))]
 fn kind_ok(header: ImageHeader) -> bool
     ensures { result ≡ kind_ok header }
 {
-    if header.components < 1 {
-        return false;
-    }
-    if scalar_size(header.scalar_type) < 1 {
-        return false;
-    }
-    if !one_or_two(header.endian) {
-        return false;
-    }
-    one_or_two(header.coordinate)
+    1 <= header.components
+        && 1 <= scalar_size(header.scalar_type)
+        && one_or_two(header.endian)
+        && one_or_two(header.coordinate)
 }
 
 // One direction: RI, DI and DRI (rule 4.7). The sum of two 16-bit numbers is formed in 32 bits.
+#[tactic(auto, unfolding(crate::specs::ImageReader::within))]
 fn within(size: u16, offset: u16, sub: u16) -> bool
     ensures { result ≡ within size offset sub }
 {
-    if size < 1 {
-        return false;
-    }
-    if sub < 1 {
-        return false;
-    }
-    offset as u32 + sub as u32 <= size as u32
+    1 <= size && 1 <= sub && u32::from(offset) + u32::from(sub) <= u32::from(size)
 }
 
+#[tactic(auto, unfolding(crate::specs::ImageReader::direction_ok))]
 fn direction_ok(header: ImageHeader, d: usize) -> bool
     requires { d < 3 }
     ensures { result ≡ direction_ok header d }
 {
-    let size = header.size;
-    let offset = header.offset;
-    let sub = header.sub_size;
-    within(size[d], offset[d], sub[d])
+    within(header.size[d], header.offset[d], header.sub_size[d])
 }
 
+#[tactic(auto, unfolding(crate::specs::ImageReader::directions_ok))]
 fn directions_ok(header: ImageHeader) -> bool
     ensures { result ≡ directions_ok header }
 {
-    if !direction_ok(header, 0) {
-        return false;
-    }
-    if !direction_ok(header, 1) {
-        return false;
-    }
-    direction_ok(header, 2)
+    direction_ok(header, 0) && direction_ok(header, 1) && direction_ok(header, 2)
 }
 
 // Below 2^59: no product leaves 64 bits.
@@ -144,119 +117,83 @@ fn pixel_bytes(header: ImageHeader) -> usize
 }
 
 // The rule for a header and n bytes of pixels.
-fn rule_fault(header: ImageHeader, n: usize) -> u8
-    ensures value { result ≡ rule_fault header n }
-    ensures bound { result ≡ 0 → n < 2 ^ 59 }
+#[tactic(auto, unfolding(crate::specs::ImageReader::rule_fault, crate::specs::ImageReader::header_ok))]
+fn rule_fault(header: ImageHeader, n: usize) -> Result<(), Fault>
+    ensures value { number_of result ≡ rule_fault header n }
+    ensures bound { OnOk result (n < 2 ^ 59) }
 {
-    if !kind_ok(header) {
-        return 9;
+    if kind_ok(header) && directions_ok(header) && n == pixel_bytes(header) {
+        Ok(())
+    } else {
+        Err(Fault::Image)
     }
-    if !directions_ok(header) {
-        return 9;
-    }
-    if n != pixel_bytes(header) {
-        return 9;
-    }
-    0
 }
 
 // The header that stands in the first 72 bytes.
 fn header_of(content: &[u8]) -> ImageHeader
     ensures { result ≡ header_of content.now }
 {
-    let size = halves3(content, 6);
-    let axis_i = words3(content, 12);
-    let axis_j = words3(content, 24);
-    let axis_k = words3(content, 36);
-    let centre = words3(content, 48);
-    let offset = halves3(content, 60);
-    let sub_size = halves3(content, 66);
     ImageHeader {
-        version: be16(content, 0),
-        components: be8(content, 2),
-        scalar_type: be8(content, 3),
-        endian: be8(content, 4),
-        coordinate: be8(content, 5),
-        size,
-        axis_i,
-        axis_j,
-        axis_k,
-        centre,
-        offset,
-        sub_size,
+        version: u16::read(content, 0),
+        components: u8::read(content, 2),
+        scalar_type: u8::read(content, 3),
+        endian: u8::read(content, 4),
+        coordinate: u8::read(content, 5),
+        size: three(content, 6),
+        axis_i: three(content, 12),
+        axis_j: three(content, 24),
+        axis_k: three(content, 36),
+        centre: three(content, 48),
+        offset: three(content, 60),
+        sub_size: three(content, 66),
     }
 }
 
-fn no_header() -> ImageHeader
-    ensures { result ≡ no_header }
-{
-    let halves = [0u16; 3];
-    let words = [0u32; 3];
-    ImageHeader {
-        version: 0,
-        components: 0,
-        scalar_type: 0,
-        endian: 0,
-        coordinate: 0,
-        size: halves,
-        axis_i: words,
-        axis_j: words,
-        axis_k: words,
-        centre: words,
-        offset: halves,
-        sub_size: halves,
-    }
-}
-
-// 9 where the content breaks the rule, otherwise 0.
-pub fn image_fault(content: &[u8]) -> u8
-    ensures { result ≡ image_fault content.now }
+// 9 where the content breaks the rule.
+#[tactic(auto, unfolding(crate::specs::ImageReader::image_fault))]
+pub fn image_fault(content: &[u8]) -> Result<(), Fault>
+    ensures { number_of result ≡ image_fault content.now }
 {
     if content.len() < IMAGE_HEADER_SIZE {
-        return 9;
+        return Err(Fault::Image);
     }
     rule_fault(header_of(content), content.len() - IMAGE_HEADER_SIZE)
 }
 
-// The number and the header.
-pub fn read_image(content: &[u8]) -> ImageRead
-    ensures { result ≡ image_of content.now }
+// The header.
+pub fn read_image(content: &[u8]) -> Result<ImageHeader, Fault>
+    ensures { image_read result ≡ image_of content.now }
 {
-    let number = image_fault(content);
-    if number != 0 {
-        let header = no_header();
-        return ImageRead { number, header };
-    }
-    let header = header_of(content);
-    ImageRead { number, header }
+    image_fault(content)?;
+    Ok(header_of(content))
 }
 
-// The part after the header; the empty part where the content is refused, so ask its number first.
+// The part after the header; the empty part where the content is refused.
 pub fn pixels(content: &[u8]) -> &[u8]
     ensures { result.now ≡ pixels_of content.now }
 {
-    if image_fault(content) != 0 {
-        return first(content, 0);
+    match image_fault(content) {
+        Ok(()) => rest(content, IMAGE_HEADER_SIZE),
+        Err(_) => first(content, 0),
     }
-    rest(content, IMAGE_HEADER_SIZE)
 }
 
 fn put_halves(a: [u16; 3], at: usize, out: &mut [u8])
     requires { at < image_header_size }
     ensures { out.new ≡ stores out.old at (number_fields (2 ∷ 2 ∷ 2 ∷ []) (three a)) (2 ∷ 2 ∷ 2 ∷ []) }
 {
-    put16(a[0], at, out);
-    put16(a[1], at + 2, out);
-    put16(a[2], at + 2 + 2, out);
+    a[0].put(at, out);
+    a[1].put(at + 2, out);
+    a[2].put(at + 2 + 2, out);
 }
 
 fn put_words(a: [u32; 3], at: usize, out: &mut [u8])
     requires { at < image_header_size }
     ensures { out.new ≡ stores out.old at (number_fields (4 ∷ 4 ∷ 4 ∷ []) (three a)) (4 ∷ 4 ∷ 4 ∷ []) }
 {
-    put32(a[0], at, out);
-    put32(a[1], at + 4, out);
-    put32(a[2], at + 4 + 4, out);
+    a[0].put(at, out);
+    a[1].put(at + 4, out);
+    a[2].put(at + 4 + 4, out);
 }
 
 // V, T, S, E and O, at the front.
@@ -264,11 +201,11 @@ fn put_kind(header: ImageHeader, out: &mut [u8])
     ensures { out.new
         ≡ stores out.old 0 (number_fields (2 ∷ replicate 4 1) (take 5 (header_numbers header))) (2 ∷ replicate 4 1) }
 {
-    put16(header.version, 0, out);
-    put8(header.components, 2, out);
-    put8(header.scalar_type, 3, out);
-    put8(header.endian, 4, out);
-    put8(header.coordinate, 5, out);
+    header.version.put(0, out);
+    header.components.put(2, out);
+    header.scalar_type.put(3, out);
+    header.endian.put(4, out);
+    header.coordinate.put(5, out);
 }
 
 // The four vectors, at 12.
@@ -301,26 +238,20 @@ fn put_header(header: ImageHeader, out: &mut [u8])
 }
 
 // 9, then 20. The length of the content is formed only where the rule bounds it.
-fn write_fault(header: ImageHeader, n: usize, room: usize) -> u8
-    ensures value { result ≡ or_else (rule_fault header n) (room_fault (image_header_size + n) room) }
-    ensures bound { result ≡ 0 → n < 2 ^ 59 }
+fn write_fault(header: ImageHeader, n: usize, room: usize) -> Result<(), Fault>
+    ensures value { number_of result ≡ or_else (rule_fault header n) (room_fault (image_header_size + n) room) }
+    ensures bound { OnOk result (n < 2 ^ 59) }
 {
-    let fault = rule_fault(header, n);
-    if fault != 0 {
-        return fault;
-    }
+    rule_fault(header, n)?;
     room_fault(IMAGE_HEADER_SIZE + n, room)
 }
 
 // Writes a content of this header and these pixels at the front of the buffer, or nothing where it refuses.
-pub fn write_image(header: ImageHeader, pixels: &[u8], out: &mut [u8]) -> Written
-    ensures { ImagePromise header pixels.now out.old result out.new }
+pub fn write_image(header: ImageHeader, pixels: &[u8], out: &mut [u8]) -> Result<usize, Fault>
+    ensures { ImagePromise header pixels.now out.old (written_of result) out.new }
 {
-    let fault = write_fault(header, pixels.len(), out.len());
-    if fault != 0 {
-        return Written::Refused(fault);
-    }
+    write_fault(header, pixels.len(), out.len())?;
     put_header(header, out);
     put(pixels, IMAGE_HEADER_SIZE, out);
-    Written::Wrote(IMAGE_HEADER_SIZE + pixels.len())
+    Ok(IMAGE_HEADER_SIZE + pixels.len())
 }

@@ -7,8 +7,7 @@ use Rattle.fields.specs.Lists.{all_of}
 use Rattle.fields.specs.Numbers.{be_val, be_bytes}
 use Rattle.fields.specs.Text.{is_text, text_of, past_text, all_zero, text_ok, text_clean, field_ok, text_bytes}
 use Rattle.fields.specs.Received.{field_bytes}
-use Rattle.fields.specs.declared.Written.TheVariants.{Wrote}
-use Rattle.fields.specs.Answer.{room_fault}
+use Rattle.fields.specs.Answer.{Wrote, room_fault}
 use Rattle.fields.specs.Writers.{written_by}
 use Rattle.cleaning.specs.CleanBytes.{clean_bytes}
 use Rattle.crc64.specs.Crc.{bit_step, run, bit_at, bits_of, bits, crc_of}

@@ -2,7 +2,7 @@
 -- only one; what is handed out is the same message cleaned, but for its content. It is marked clean exactly if it is. Given room, the writer
 -- writes it back cleaned, and that is byte for byte what was read exactly if it is marked clean.
 use Rattle.std.specs.Prelude.{ℕ, ◌+◌, ◌≤◌, ◌≡◌, ◌↔◌, true, false, List, ◌++◌, length, take, drop}
-use Rattle.fields.specs.declared.Written.TheVariants.{Wrote}
+use Rattle.fields.specs.Answer.{Wrote}
 use Rattle.fields.specs.Bytes.{Bytes}
 use Rattle.fields.specs.Numbers.{be_at}
 use Rattle.crc64.specs.Crc.{crc_of}

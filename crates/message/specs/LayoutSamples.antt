@@ -1,8 +1,7 @@
 -- Bodies of V 2 and metadata sections, byte by byte, in both layouts (rules 3.6, 5.1 and 5.9). They fix where the numbers of the extended header
 -- stand, which sizes agree with a section, the limits, and that 6 comes before 7 and 7 before 8.
 use Rattle.std.specs.Prelude.{ℕ, ◌≡◌, true, false, List, [], ◌∷◌, ◌++◌, map, length, take, replicate}
-use Rattle.fields.specs.declared.Written.{Written}
-use Rattle.fields.specs.declared.Written.TheVariants.{Wrote, Refused}
+use Rattle.fields.specs.Answer.{Written, Wrote, Refused}
 use Rattle.fields.specs.Layout.{join}
 use Rattle.metadata.specs.Examples.{two_entries}
 use Rattle.content.specs.Kinds.{transform_text}

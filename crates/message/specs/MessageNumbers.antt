@@ -1,10 +1,9 @@
 -- The number of each refusal, in order, in each layout: of the reader with its step (rules 5.2 and 5.3), and of the writer (rules 5.8 to 5.11).
 use Rattle.std.specs.Prelude.{ℕ, ◌+◌, ◌-◌, ◌^◌, ◌<◌, ◌≤◌, ◌≡◌, ◌⊎◌, true, false, List, ◌++◌, length, drop, replicate}
-use Rattle.fields.specs.declared.Written.{Written}
 use Rattle.fields.specs.Bytes.{Bytes}
 use Rattle.fields.specs.Numbers.{be_at}
 use Rattle.fields.specs.Checks.{or_else}
-use Rattle.fields.specs.Answer.{written_number, written_count, room_fault}
+use Rattle.fields.specs.Answer.{Written, written_number, written_count, room_fault}
 use Rattle.crc64.specs.Crc.{crc_of}
 use Rattle.header.specs.Header.{Header, WellTexts, WellHeader, encode_header, body_limit}
 use Rattle.header.specs.HeaderTheorems.{BeginsWith, TextsHeld}

@@ -3,8 +3,7 @@ use Rattle.std.specs.Prelude.{ℕ, ◌+◌, ◌-◌, ◌≤◌, Bool, true, fals
 use Rattle.fields.specs.Bytes.{part}
 use Rattle.fields.specs.Numbers.{be_at}
 use Rattle.fields.specs.Checks.{or_else}
-use Rattle.fields.specs.declared.Checked.{Checked}
-use Rattle.fields.specs.Answer.{checked}
+use Rattle.fields.specs.Answer.{Checked, checked}
 use Rattle.crc64.specs.Crc.{crc_of}
 use Rattle.header.specs.declared.HeaderRead.{HeaderRead}
 use Rattle.header.specs.Header.{header_size, type_size, name_size}

@@ -1,7 +1,7 @@
 -- What the writer answers and leaves in the buffer, for any arguments. It checks as the reader does, and 20 last (rule 5.8). What it writes is
 -- cleaned (rule 13.6).
 use Rattle.std.specs.Prelude.{ℕ, ◌+◌, ◌-◌, ◌≤◌, ◌≡◌, Bool, cond, ◌&&◌, List, eqb, leb, length, replicate}
-use Rattle.fields.specs.declared.Written.{Written}
+use Rattle.fields.specs.Answer.{Written}
 use Rattle.fields.specs.Numbers.{size_limit}
 use Rattle.fields.specs.Checks.{or_else}
 use Rattle.fields.specs.Writers.{written_by, out_by, WriterPromise}
@@ -14,10 +14,16 @@ use Rattle.content.specs.ContentCheck.{deepest}
 use Rattle.cleaning.specs.CleanBytes.{clean_bytes}
 use Rattle.message.specs.declared.Layout.{Layout}
 use Rattle.message.specs.declared.Layout.TheVariants.{New, Old}
-use Rattle.message.specs.declared.FixedFields.{FixedFields}
+use Rattle.message.specs.declared.MessageFields.{MessageFields}
 use Rattle.message.specs.Body.{extended_least, Sections, MetadataFits, encode_body}
 use Rattle.message.specs.Message.{Parts, body_of, encode_with}
 use Rattle.message.specs.MessageReader.{version_fault, sections_fault}
+
+-- the fields that have a fixed size: V, TIME_STAMP, MSG_ID
+pub record FixedFields : Type 0 where
+  pub version : ℕ
+  pub time_stamp : ℕ
+  pub id : ℕ
 
 abbrev pub sections_given : ℕ → List ℕ → List ℕ → List ℕ → Sections
 sections_given id further content metadata = record { id = id; further = further; content = content; metadata = metadata }
@@ -35,6 +41,13 @@ given f type_text device_name further content metadata =
       sections = sections_given f.id further content metadata;
     }
 
+-- the same of the value that the writer takes
+abbrev pub fixed_of : MessageFields → FixedFields
+fixed_of m = record { version = m.version; time_stamp = m.time_stamp; id = m.id }
+
+abbrev pub given_of : MessageFields → Parts
+given_of m = given (fixed_of m) m.type_text.now m.device_name.now m.further.now m.content.now m.metadata.now
+
 -- the body and the bytes of what is given: the index is as long as INDEX_COUNT says
 abbrev pub body_given : Layout → Parts → List ℕ
 body_given l p = body_of l (index_size_in p.sections.metadata) p
@@ -45,6 +58,9 @@ encode_parts l p = encode_with l (index_size_in p.sections.metadata) p
 -- the length that check 3 of a writer compares with the limit (rule 5.11)
 abbrev pub body_length : ℕ → ℕ → ℕ → ℕ → ℕ
 body_length version further content metadata = cond (eqb version 2) (extended_least + further + content + metadata) content
+
+abbrev pub length_given : MessageFields → ℕ
+length_given m = body_length m.version (length m.further.now) (length m.content.now) (length m.metadata.now)
 
 -- what a body is written from: in V 2 the sizes of further bytes and metadata fit their fields, the content keeps the limit, and a buffer of this
 -- length has room for the body

@@ -1,7 +1,7 @@
 -- Messages from a sender that does not clear its text fields (rules 2.4 and 13.1 to 13.7), byte by byte: what the reader answers, and what the
 -- writer makes of what is handed out. They fix where a text ends, which bytes are zeroed, and which CRC is asked for and which is written.
 use Rattle.std.specs.Prelude.{ℕ, ◌≡◌, false, List, [], ◌∷◌, ◌++◌, length, drop, replicate}
-use Rattle.fields.specs.declared.Written.TheVariants.{Wrote, Refused}
+use Rattle.fields.specs.Answer.{Wrote, Refused}
 use Rattle.fields.specs.Layout.{join}
 use Rattle.metadata.specs.Metadata.{absent}
 use Rattle.content.specs.Kinds.{transform_text, bind_text}

@@ -1,8 +1,7 @@
 -- Whole messages byte by byte, with what the reader answers to them and what the writer makes of their parts; and short inputs, one for
 -- each number of the reader and the writer. They fix the order of the fields, the limits and the order of the checks, in both layouts.
 use Rattle.std.specs.Prelude.{ℕ, ◌+◌, ◌-◌, ◌≡◌, true, false, List, [], ◌∷◌, ◌++◌, map, length, take, drop, replicate}
-use Rattle.fields.specs.declared.Written.{Written}
-use Rattle.fields.specs.declared.Written.TheVariants.{Wrote, Refused}
+use Rattle.fields.specs.Answer.{Written, Wrote, Refused}
 use Rattle.fields.specs.Numbers.{be_bytes}
 use Rattle.fields.specs.Text.{text_bytes}
 use Rattle.fields.specs.Layout.{join}
@@ -14,12 +13,11 @@ use Rattle.content.specs.Tree.{transform, position, other}
 use Rattle.message.specs.declared.Layout.{Layout}
 use Rattle.message.specs.declared.Layout.TheVariants.{New, Old}
 use Rattle.message.specs.declared.Answer.{Answer}
-use Rattle.message.specs.declared.FixedFields.{FixedFields}
 use Rattle.message.specs.LayoutNumber.{layout_of}
 use Rattle.message.specs.Body.{Sections}
 use Rattle.message.specs.Message.{Message, WellFormed, encode}
 use Rattle.message.specs.MessageReader.{sections_fault, refused, read_of, type_in, name_in, further_in, content_in, metadata_in}
-use Rattle.message.specs.MessageWriter.{given, message_written, message_out}
+use Rattle.message.specs.MessageWriter.{FixedFields, given, message_written, message_out}
 
 -- ---- V 1: a TRANSFORM from the device "Arm"
 

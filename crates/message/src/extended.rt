@@ -1,12 +1,14 @@
 // What goes by the layout (rule 3.6): the numbers after EXT_HEADER_SIZE, in a body that is read and in one that is written. Nothing else
 // knows what they mean.
 ghost use Rattle.std.specs.Prelude.{◌≡◌};
+ghost use Rattle.fields.specs.Fault.{number_of};
 ghost use Rattle.message.specs.Body.{extended_numbers, MetadataFits};
 ghost use Rattle.message.specs.MessageReader.{section_size, id_at, reserved_ok, index_size_fault};
 ghost use Rattle.message.specs.MessageWriter.{size_fits};
 
 use crate::Layout;
-use fields::number::{SIZE_LIMIT, be16, be32};
+use fields::fault::Fault;
+use fields::number::{Number, SIZE_LIMIT};
 
 // The numbers after EXT_HEADER_SIZE, which have two, four and four bytes.
 #[derive(Clone, Copy)]
@@ -21,8 +23,8 @@ pub(crate) fn section_size(layout: Layout, body: &[u8]) -> usize
     ensures { result ≡ section_size layout body.now }
 {
     match layout {
-        Layout::New => be16(body, 2) as usize + be32(body, 4) as usize,
-        Layout::Old => be16(body, 2) as usize,
+        Layout::New => u16::read(body, 2) as usize + u32::read(body, 4) as usize,
+        Layout::Old => u16::read(body, 2) as usize,
     }
 }
 
@@ -31,8 +33,8 @@ pub(crate) fn id_at(layout: Layout, body: &[u8]) -> u32
     ensures { result ≡ id_at layout body.now }
 {
     match layout {
-        Layout::New => be32(body, 8),
-        Layout::Old => be32(body, 4),
+        Layout::New => u32::read(body, 8),
+        Layout::Old => u32::read(body, 4),
     }
 }
 
@@ -42,22 +44,19 @@ pub(crate) fn reserved_ok(layout: Layout, body: &[u8]) -> bool
 {
     match layout {
         Layout::New => true,
-        Layout::Old => be32(body, 8) == 0,
+        Layout::Old => u32::read(body, 8) == 0,
     }
 }
 
-// 7 where there is a METADATA_HEADER_SIZE and it is not the section's, or 0.
-pub(crate) fn index_size_fault(layout: Layout, body: &[u8], section: &[u8]) -> u8
-    ensures { result ≡ index_size_fault layout body.now section.now }
+// Check 7 of METADATA_HEADER_SIZE, where there is one: it is to be the size of the section's index.
+pub(crate) fn index_size_fault(layout: Layout, body: &[u8], section: &[u8]) -> Result<(), Fault>
+    ensures { number_of result ≡ index_size_fault layout body.now section.now }
 {
     match layout {
-        Layout::New => {
-            if be16(body, 2) as usize == metadata::index_size(section) {
-                return 0;
-            }
-            7
+        Layout::New if u16::read(body, 2) as usize != metadata::index_size(section) => {
+            Err(Fault::Metadata)
         }
-        Layout::Old => 0,
+        _ => Ok(()),
     }
 }
 

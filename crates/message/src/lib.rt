@@ -5,13 +5,15 @@ mod body;
 mod extended;
 
 ghost use Rattle.std.specs.Prelude.{◌≡◌, ◌+◌, ◌≤◌, ◌++◌, length, drop};
+ghost use Rattle.fields.specs.Answer.{checked_of, written_of};
+ghost use Rattle.fields.specs.Fault.{number_of};
 ghost use Rattle.header.specs.Header.{header_size, body_limit};
 ghost use Rattle.message.specs.LayoutNumber.{layout_of};
 ghost use Rattle.message.specs.MessageReader.{version_fault, contents_fault, contents_checked, body_checked, places_of, Within, refused, accepted, read_of, type_in, name_in, further_in, content_in, metadata_in};
-ghost use Rattle.message.specs.MessageWriter.{given, sections_given, given_sections_fault, given_fault, message_bytes, MessageFits, header_given, MessagePromise};
+ghost use Rattle.message.specs.MessageWriter.{given_of, fixed_of, given_sections_fault, given_fault, message_bytes, MessageFits, header_given, MessagePromise};
 
-use body::Places;
-use fields::{Checked, Written, marked};
+use body::{Places, ReceivedBody};
+use fields::fault::Fault;
 use header::HEADER_SIZE;
 
 // The two layouts of the extended header (rule 3.6). Whoever reads or writes names one.
@@ -22,13 +24,14 @@ pub enum Layout {
 }
 
 // The layout that a number stands for where one must: in scripts, and for programs in other languages.
+#[tactic(auto, unfolding(crate::specs::LayoutNumber::layout_of))]
 pub fn layout_of(number: u64) -> Layout
     ensures { result ≡ layout_of number }
 {
-    if number == 1 {
-        return Layout::Old;
+    match number {
+        1 => Layout::Old,
+        _ => Layout::New,
     }
-    Layout::New
 }
 
 // What the reader makes of the front of a stream: the number (rule 5.1), 0 for accepted, and the step (rule 5.3), which is the length of
@@ -52,12 +55,18 @@ pub struct Answer {
     pub clean: bool,
 }
 
-// The fields of a message that have a fixed size, as the writer is given them: V, TIME_STAMP, MSG_ID.
+// A message as the writer is given it: V, TIME_STAMP and MSG_ID, and the parts. The two texts have no zeros behind them, further are the bytes
+// of the extended header past its twelve, and the metadata is the bytes of its section.
 #[derive(Clone, Copy)]
-pub struct FixedFields {
+pub struct MessageFields<'a> {
     pub version: u16,
     pub time_stamp: u64,
     pub id: u32,
+    pub type_text: &'a [u8],
+    pub device_name: &'a [u8],
+    pub further: &'a [u8],
+    pub content: &'a [u8],
+    pub metadata: &'a [u8],
 }
 
 // ---- the reader
@@ -85,68 +94,47 @@ pub fn refusal(number: u8, step: usize) -> Answer
 }
 
 // Check 4.
-fn version_fault(version: u16) -> u8
-    ensures { result ≡ version_fault version }
+#[tactic(auto, unfolding(crate::specs::MessageReader::version_fault))]
+fn version_fault(version: u16) -> Result<(), Fault>
+    ensures { number_of result ≡ version_fault version }
 {
-    if version == 1 {
-        return 0;
+    match version {
+        1 | 2 => Ok(()),
+        _ => Err(Fault::Version),
     }
-    if version == 2 {
-        return 0;
-    }
-    4
 }
 
-// Check 7, and those of the content, with its mark.
-fn contents_check(type_text: &[u8], content: &[u8], metadata: &[u8]) -> Checked
-    ensures { result ≡ contents_checked type_text.now content.now metadata.now }
+// Check 7, and those of the content, whose mark it gives.
+fn contents_check(type_text: &[u8], content: &[u8], metadata: &[u8]) -> Result<bool, Fault>
+    ensures { checked_of result ≡ contents_checked type_text.now content.now metadata.now }
 {
-    let fault = metadata::metadata_fault(metadata);
-    if fault != 0 {
-        return marked(fault, false);
-    }
+    metadata::metadata_fault(metadata)?;
     content::content_check(type_text, content)
 }
 
-// The number alone.
-fn contents_fault(type_text: &[u8], content: &[u8], metadata: &[u8]) -> u8
-    ensures { result ≡ contents_fault type_text.now content.now metadata.now }
+// The same without the mark.
+fn contents_fault(type_text: &[u8], content: &[u8], metadata: &[u8]) -> Result<(), Fault>
+    ensures { number_of result ≡ contents_fault type_text.now content.now metadata.now }
 {
-    let answer = contents_check(type_text, content, metadata);
-    answer.number
+    contents_check(type_text, content, metadata)?;
+    Ok(())
 }
 
 // Checks 4 to 11, of a message that is there whole and whose sections stand at these places of its body; with its content's mark.
-fn body_check(
-    layout: Layout,
-    version: u16,
-    crc: u64,
-    type_text: &[u8],
-    body: &[u8],
-    places: Places,
-) -> Checked
-    requires { places ≡ places_of layout version body.now }
-    ensures { result ≡ body_checked layout version crc type_text.now body.now }
+fn body_check(body: ReceivedBody, crc: u64, type_text: &[u8], places: Places) -> Result<bool, Fault>
+    requires { places ≡ places_of body.layout body.version body.bytes.now }
+    ensures { checked_of result ≡ body_checked body.entry.layout body.entry.version crc type_text.now body.entry.bytes.now }
 {
-    let fault = version_fault(version);
-    if fault != 0 {
-        return marked(fault, false);
+    version_fault(body.version)?;
+    if crc64::crc64(body.bytes) != crc {
+        return Err(Fault::Crc);
     }
-    if crc64::crc64(body) != crc {
-        return marked(5, false);
-    }
-    let fault = body::extended_fault(layout, version, body, places);
-    if fault != 0 {
-        return marked(fault, false);
-    }
-    let metadata = fields::slice::part(body, places.metadata_at, places.metadata_len);
-    let fault = body::sizes_fault(layout, version, body, metadata);
-    if fault != 0 {
-        return marked(fault, false);
-    }
+    body.extended_fault(places)?;
+    let metadata = fields::slice::part(body.bytes, places.metadata_at, places.metadata_len);
+    body.sizes_fault(metadata)?;
     contents_check(
         type_text,
-        fields::slice::part(body, places.content_at, places.content_len),
+        fields::slice::part(body.bytes, places.content_at, places.content_len),
         metadata,
     )
 }
@@ -187,20 +175,18 @@ pub fn read(layout: Layout, stream: &[u8]) -> Answer
     if stream.len() < HEADER_SIZE + size {
         return refusal(1, 0);
     }
-    let body = fields::slice::part(stream, HEADER_SIZE, size);
-    let places = body::sections(layout, header.version, body);
-    let checks = body_check(
+    let version = header.version;
+    let body = ReceivedBody {
         layout,
-        header.version,
-        header.crc,
-        header::type_text(stream, header),
-        body,
-        places,
-    );
-    if checks.number != 0 {
-        return refusal(checks.number, HEADER_SIZE + size);
+        version,
+        bytes: fields::slice::part(stream, HEADER_SIZE, size),
+    };
+    let places = body.sections();
+    let checked = body_check(body, header.crc, header::type_text(stream, header), places);
+    match checked {
+        Ok(clean) => accept(header, places, header.clean & clean),
+        Err(fault) => refusal(fault.number(), HEADER_SIZE + size),
     }
-    accept(header, places, fields::both(header.clean, checks.clean))
 }
 
 // ---- the parts that an answer names. They are cut from the stream, which is not read again; for an answer to another stream they hold as
@@ -240,173 +226,72 @@ pub fn metadata(stream: &[u8], answer: Answer) -> &[u8]
 // ---- the writer
 
 // Checks 4 to 11 of a writer.
-fn given_sections_fault(
-    layout: Layout,
-    fixed: FixedFields,
-    type_text: &[u8],
-    further: &[u8],
-    content: &[u8],
-    metadata: &[u8],
-) -> u8
-    ensures { result
-        ≡ given_sections_fault layout fixed.version type_text.now
-        (sections_given fixed.id further.now content.now metadata.now) }
+#[tactic(auto, unfolding(crate::specs::MessageWriter::given_sections_fault, crate::specs::MessageWriter::fit_fault, crate::specs::MessageReader::sections_fault))]
+fn given_sections_fault(layout: Layout, message: MessageFields) -> Result<(), Fault>
+    ensures { number_of result
+        ≡ given_sections_fault layout message.entry.version message.entry.type_text.now
+        (given_of message.entry).sections }
 {
-    let fault = version_fault(fixed.version);
-    if fault != 0 {
-        return fault;
+    version_fault(message.version)?;
+    if !body::is_fit(layout, message) {
+        return Err(Fault::ExtendedHeader);
     }
-    let index = metadata::index_size(metadata);
-    if !body::is_fit(
-        layout,
-        fixed.version,
-        fixed.id,
-        further.len(),
-        index,
-        metadata.len(),
-    ) {
-        return 6;
-    }
-    contents_fault(type_text, content, metadata)
+    contents_fault(message.type_text, message.content, message.metadata)
 }
 
 // All checks of a writer but that of the room.
-fn given_fault(
-    layout: Layout,
-    fixed: FixedFields,
-    type_text: &[u8],
-    device_name: &[u8],
-    further: &[u8],
-    content: &[u8],
-    metadata: &[u8],
-) -> u8
-    ensures { result ≡ given_fault layout (given fixed type_text.now device_name.now further.now content.now metadata.now) }
+fn given_fault(layout: Layout, message: MessageFields) -> Result<(), Fault>
+    ensures { number_of result ≡ given_fault layout (given_of message.entry) }
 {
-    let fault = header::names_fault(type_text, device_name);
-    if fault != 0 {
-        return fault;
+    header::names_fault(message.type_text, message.device_name)?;
+    if !body::within_limit(message) {
+        return Err(Fault::BodySize);
     }
-    if !body::within_limit(fixed.version, further.len(), content.len(), metadata.len()) {
-        return 3;
-    }
-    given_sections_fault(layout, fixed, type_text, further, content, metadata)
+    given_sections_fault(layout, message)
 }
 
 // The fields of the header of a message whose body has this size and CRC.
-fn header_fields(fixed: FixedFields, size: usize, crc: u64) -> header::HeaderFields
-    ensures { result ≡ header_given fixed size crc }
+fn header_fields(message: MessageFields, size: usize, crc: u64) -> header::HeaderFields
+    ensures { result ≡ header_given (fixed_of message.entry) size crc }
 {
     header::HeaderFields {
-        version: fixed.version,
-        time_stamp: fixed.time_stamp,
+        version: message.version,
+        time_stamp: message.time_stamp,
         body_size: size,
         crc: crc,
     }
 }
 
 // Writes a message that passed the checks, its content cleaned, into a buffer with room for its body of so many bytes.
-fn put_message(
-    layout: Layout,
-    fixed: FixedFields,
-    type_text: &[u8],
-    device_name: &[u8],
-    further: &[u8],
-    content: &[u8],
-    metadata: &[u8],
-    size: usize,
-    out: &mut [u8],
-)
-    requires { MessageFits layout (given fixed type_text.now device_name.now further.now content.now metadata.now) size
-        (length out.old) }
-    ensures { out.new
-        ≡ message_bytes layout
-        (given fixed type_text.now device_name.now further.now content.now metadata.now)
-        ++ drop (header_size + size) out.old }
+fn put_message(layout: Layout, message: MessageFields, size: usize, out: &mut [u8])
+    requires { MessageFits layout (given_of message) size (length out.old) }
+    ensures { out.new ≡ message_bytes layout (given_of message.entry) ++ drop (header_size + size) out.old }
 {
-    body::put_body(
-        layout,
-        fixed.version,
-        fixed.id,
-        further,
-        type_text,
-        content,
-        metadata,
-        &mut out[HEADER_SIZE..HEADER_SIZE + size],
-    );
+    body::put_body(layout, message, &mut out[HEADER_SIZE..HEADER_SIZE + size]);
     let crc = crc64::crc64(&out[HEADER_SIZE..HEADER_SIZE + size]);
-    header::write_header(header_fields(fixed, size, crc), type_text, device_name, out);
+    let _ = header::write_header(
+        header_fields(message, size, crc),
+        message.type_text,
+        message.device_name,
+        out,
+    );
 }
 
 // Writes a message that passed the checks, its content cleaned, if the buffer has room for it.
-fn write_checked(
-    layout: Layout,
-    fixed: FixedFields,
-    type_text: &[u8],
-    device_name: &[u8],
-    further: &[u8],
-    content: &[u8],
-    metadata: &[u8],
-    out: &mut [u8],
-) -> Written
-    requires { given_fault layout (given fixed type_text.now device_name.now further.now content.now metadata.now) ≡ 0 }
-    ensures { MessagePromise layout
-        (given fixed type_text.now device_name.now further.now content.now metadata.now)
-        out.old result out.new }
+fn write_checked(layout: Layout, message: MessageFields, out: &mut [u8]) -> Result<usize, Fault>
+    requires { given_fault layout (given_of message) ≡ 0 }
+    ensures { MessagePromise layout (given_of message.entry) out.old (written_of result) out.new }
 {
-    let size = body::body_len(fixed.version, further.len(), content.len(), metadata.len());
-    let short = fields::room_fault(HEADER_SIZE + size, out.len());
-    if short != 0 {
-        return Written::Refused(short);
-    }
-    put_message(
-        layout,
-        fixed,
-        type_text,
-        device_name,
-        further,
-        content,
-        metadata,
-        size,
-        out,
-    );
-    Written::Wrote(HEADER_SIZE + size)
+    let size = body::body_len(message);
+    fields::room_fault(HEADER_SIZE + size, out.len())?;
+    put_message(layout, message, size, out);
+    Ok(HEADER_SIZE + size)
 }
 
-// Writes a message to the front of a buffer, in this layout, its content cleaned (rule 13.6). The metadata is given as the bytes of its
-// section.
-pub fn write(
-    layout: Layout,
-    fixed: FixedFields,
-    type_text: &[u8],
-    device_name: &[u8],
-    further: &[u8],
-    content: &[u8],
-    metadata: &[u8],
-    out: &mut [u8],
-) -> Written
-    ensures { MessagePromise layout (given fixed type_text.now device_name.now further.now content.now metadata.now)
-        out.old result out.new }
+// Writes a message to the front of a buffer, in this layout, its content cleaned (rule 13.6), and gives how many bytes it wrote.
+pub fn write(layout: Layout, message: MessageFields, out: &mut [u8]) -> Result<usize, Fault>
+    ensures { MessagePromise layout (given_of message.entry) out.old (written_of result) out.new }
 {
-    let fault = given_fault(
-        layout,
-        fixed,
-        type_text,
-        device_name,
-        further,
-        content,
-        metadata,
-    );
-    if fault != 0 {
-        return Written::Refused(fault);
-    }
-    write_checked(
-        layout,
-        fixed,
-        type_text,
-        device_name,
-        further,
-        content,
-        metadata,
-        out,
-    )
+    given_fault(layout, message)?;
+    write_checked(layout, message, out)
 }

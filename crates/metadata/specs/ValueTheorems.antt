@@ -2,10 +2,9 @@
 use Rattle.std.specs.Prelude.{ℕ, ◌+◌, ◌*◌, ◌≡◌, ◌⊎◌, List, [], ◌∷◌, ◌++◌, length}
 use Rattle.fields.specs.Bytes.{Bytes}
 use Rattle.fields.specs.Lists.{Each, flat}
-use Rattle.metadata.specs.declared.ValuePlace.{ValuePlace}
 use Rattle.metadata.specs.Metadata.{Entry, Metadata, absent, section, entry_data, encode_metadata, WellMetadata}
 use Rattle.metadata.specs.MetadataCheck.{metadata_fault}
-use Rattle.metadata.specs.ValueLookup.{value_place, value_of}
+use Rattle.metadata.specs.ValueLookup.{ValuePlace, value_place, value_of}
 
 -- no section has no entries
 abbrev pub entries_of : Metadata → List Entry

@@ -38,8 +38,7 @@ use Rattle.panel.specs.declared.Label.{Label}
 use Rattle.panel.specs.declared.Value.{Value}
 use Rattle.panel.specs.declared.LookAnswer.{LookAnswer}
 use Rattle.panel.specs.declared.LookAnswer.TheVariants as look-answer
-use Rattle.panel.specs.declared.Panel.{Panel}
-use Rattle.panel.specs.declared.CallResult.{CallResult}
+use Rattle.panel.specs.Records.{Panel, CallResult}
 use Rattle.panel.specs.Tiles.{value_of, label_of, counted_for, is_tile}
 use Rattle.panel.specs.Calls.{label_in, add_fault, add_of, link_of, read_fault, message_fault, at_clock, received, read_on, refused_call, message_of, look_fault, look_of}
 use Rattle.panel.specs.Demand3.{answer_to, panel_next, panel_after}

@@ -2,12 +2,7 @@
 use Rattle.std.specs.Prelude.{ℕ, cond, eqb}
 use Rattle.history.specs.Calls.{green, grey, Answer, refused, accepted, added, empty, shown, value_bytes}
 use Rattle.panel.specs.declared.Value.{Value}
-use Rattle.panel.specs.declared.Panel.{Panel}
-use Rattle.panel.specs.declared.AddResult.{AddResult}
-use Rattle.panel.specs.declared.CallResult.{CallResult}
-use Rattle.panel.specs.declared.LookResult.{LookResult}
-use Rattle.panel.specs.declared.AddAnswer.{AddAnswer}
-use Rattle.panel.specs.declared.AddAnswer.TheVariants.{Added, Refused}
+use Rattle.panel.specs.Records.{Panel, AddResult, CallResult, LookResult, AddAnswer, Added, Refused}
 use Rattle.panel.specs.declared.LookAnswer.{LookAnswer}
 use Rattle.panel.specs.declared.LookAnswer.TheVariants as looked
 

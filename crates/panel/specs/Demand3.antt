@@ -6,7 +6,7 @@ use Rattle.history.specs.Calls.{Call, add, link_up, link_down, message, look, Of
 use Rattle.history.specs.Reading.{Reader, ReaderTheorems}
 use Rattle.history.specs.History.{call_at, IsColoured, Answers}
 use Rattle.history.specs.Words.{Words}
-use Rattle.panel.specs.declared.Panel.{Panel}
+use Rattle.panel.specs.Records.{Panel}
 use Rattle.panel.specs.Answers.{Result, of_add, of_call, of_look, called_by}
 use Rattle.panel.specs.Calls.{fresh_panel, add_of, link_of, message_of, look_of}
 

@@ -14,7 +14,7 @@ use Rattle.history.specs.Calls.{Call, add, link_up, link_down, message, look, En
 use Rattle.history.specs.Reading.{Reader}
 use Rattle.history.specs.History.{value_for, Shown}
 use Rattle.panel.specs.declared.Value.{Value}
-use Rattle.panel.specs.declared.AddAnswer.TheVariants as add-answer
+use Rattle.panel.specs.Records as add-answer
 use Rattle.panel.specs.declared.LookAnswer.{LookAnswer}
 use Rattle.panel.specs.declared.LookAnswer.TheVariants as look-answer
 use Rattle.panel.specs.Tiles.{value_of}

@@ -2,13 +2,17 @@
 use Prim.Native.Nat.{ℕ, zero, suc, ◌+◌, ◌*◌, ◌/◌, ◌%◌, ◌<◌, ◌≤◌}
 use mathlib.Core.Path.{◌≡◌, refl, sym, ap, ap₂, ◌∙◌, subst⁻¹}
 use mathlib.Core.Logic.{◌⊎◌, inl, inr, ⊎_elim}
-use mathlib.Core.Bool.{Bool, cond, ◌||◌}
+use mathlib.Core.Bool.{Bool, cond, ◌||◌, false≢true}
 use mathlib.Core.List.{List, [], ◌∷◌, ◌++◌, map, append-nil}
 use native.Mathlib.Omega.{arith}
 use lib.Dec.{eqb}
 use lib.ListN.{length, get_or, take, replicate, length-take, length-replicate}
 use lib.Seq.{sets, take_all}
 use borrow.Author.Tests.{eqb-true, eq-eqb, ne_eqb}
+use Rattle.std.specs.Prelude.{Result, Ok, Err, IsErr}
+use Rattle.fields.specs.declared.fault.Fault.{Fault}
+use Rattle.fields.specs.Fault.{number_of}
+use Rattle.fields.proofs.Laws.Answer.{fault_some}
 use Rattle.fields.specs.Bytes.{Bytes}
 use Rattle.fields.specs.Lists.{flat}
 use Rattle.fields.specs.Numbers.{be_val, be_bytes}
@@ -26,9 +30,11 @@ use Rattle.fields.proofs.Laws.Stores.{sets-flat-next}
 use Rattle.fields.proofs.Laws.Tests.{by_zero, cond_cases, cond_yes, cond_no}
 use Rattle.pose.specs.Words.{Words, word_bytes}
 use Rattle.pose.specs.Transform.{WellTransform}
-use Rattle.pose.specs.TransformReader.{transform_fault, transform_at, no_transform, transform_of}
+use Rattle.pose.specs.declared.Transform.{Transform}
+use Rattle.pose.specs.declared.Position.{Position}
+use Rattle.pose.specs.TransformReader.{TransformRead, transform_read, transform_fault, transform_at, no_transform, transform_of}
 use Rattle.pose.specs.Position.{PositionCount, three, six, seven, WellPosition}
-use Rattle.pose.specs.PositionReader.{is_count, count_fault, position_fault, some_position, no_position, position_of}
+use Rattle.pose.specs.PositionReader.{position_read, is_count, count_fault, position_fault, some_position, no_position, position_of}
 
 -- ---- words and their bytes
 
@@ -127,6 +133,11 @@ pub transform-refused : (c : List ℕ) → (transform_fault c ≡ 0 → ⊥) →
 unfolding transform_of
 transform-refused c h = cond_no (eqb (transform_fault c) 0) _ (record { number = transform_fault c; transform = no_transform }) (ne_eqb (transform_fault c) 0 h)
 
+pub refused-transform : (c : List ℕ) (r : Result Transform Fault) → IsErr r → number_of r ≡ transform_fault c → transform_read r ≡ transform_of c
+refused-transform c (Ok t) h e = absurd (false≢true h)
+refused-transform c (Err f) h e =
+    ap {B = TransformRead} (λ (n : ℕ). record { number = n; transform = no_transform }) e ∙ sym (transform-refused c (λ z. fault_some f (e ∙ z)))
+
 -- ---- POSITION
 
 -- check 8 passes the counts that a POSITION may have
@@ -201,6 +212,10 @@ position-read c h = cond_yes (eqb (position_fault c) 0) (some_position c) _ (eq-
 pub position-refused : (c : List ℕ) → (position_fault c ≡ 0 → ⊥) → position_of c ≡ no_position (position_fault c)
 unfolding position_of
 position-refused c h = cond_no (eqb (position_fault c) 0) _ (no_position (position_fault c)) (ne_eqb (position_fault c) 0 h)
+
+pub refused-position : (c : List ℕ) (r : Result Position Fault) → IsErr r → number_of r ≡ position_fault c → position_read r ≡ position_of c
+refused-position c (Ok p) h e = absurd (false≢true h)
+refused-position c (Err f) h e = ap no_position e ∙ sym (position-refused c (λ z. fault_some f (e ∙ z)))
 
 -- ---- the writer's checks, as the code makes them
 

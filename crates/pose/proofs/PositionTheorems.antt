@@ -10,14 +10,13 @@ use Rattle.fields.specs.Bytes.{Bytes}
 use Rattle.fields.specs.Numbers.{be_at}
 use Rattle.fields.specs.Layout.{numbers_at}
 use Rattle.fields.specs.Writers.{writer_fault}
-use Rattle.fields.specs.declared.Written.TheVariants.{Wrote}
+use Rattle.fields.specs.Answer.{Wrote}
 use Rattle.fields.proofs.Laws.Numbers.{be_at-past}
 use Rattle.fields.proofs.Laws.Tests.{cond_cases}
 use Rattle.fields.proofs.Laws.Writers.{writer-passes, out-front, writer-theorems}
-use Rattle.pose.specs.declared.PositionRead.{PositionRead}
 use Rattle.pose.specs.Words.{word_bytes}
 use Rattle.pose.specs.Position.{PositionCount, three, six, seven, WellPosition}
-use Rattle.pose.specs.PositionReader.{count_fault, position_fault, position_at, position_of, position_words}
+use Rattle.pose.specs.PositionReader.{PositionRead, count_fault, position_fault, position_at, position_of, position_words}
 use Rattle.pose.specs.PositionWriter.{position_written, position_out}
 use Rattle.pose.specs.PositionTheorems.{PositionTheorems}
 use Rattle.pose.proofs.Laws.{length-word_bytes, words-read, words_back, count-passed, count-fault, words-in, position-count, position-well, position-format, position-read, position-refused}

@@ -8,17 +8,15 @@ use lib.ListN.{length, take, drop, get_or, length-append}
 use borrow.Author.Tests.{eqb-true}
 use Rattle.fields.specs.Bytes.{Bytes, part}
 use Rattle.fields.specs.Layout.{join, cut}
-use Rattle.fields.specs.Answer.{room_fault}
-use Rattle.fields.specs.declared.Written.TheVariants.{Wrote}
+use Rattle.fields.specs.Answer.{Wrote, room_fault}
 use Rattle.fields.proofs.Laws.Layout.{cut-join}
 use Rattle.fields.proofs.Laws.Checks.{else-second}
 use Rattle.fields.proofs.Laws.Tests.{cond_cases}
 use Rattle.fields.proofs.Laws.Writers.{writer-passes, out-front, writer-theorems}
 use Rattle.pose.specs.declared.Transform.{Transform}
-use Rattle.pose.specs.declared.TransformRead.{TransformRead}
 use Rattle.pose.specs.Words.{word_bytes}
 use Rattle.pose.specs.Transform.{WellTransform, transform_words, transform_bytes}
-use Rattle.pose.specs.TransformReader.{transform_fault, transform_at, transform_of}
+use Rattle.pose.specs.TransformReader.{TransformRead, transform_fault, transform_at, transform_of}
 use Rattle.pose.specs.TransformWriter.{transform_written, transform_out}
 use Rattle.pose.specs.TransformTheorems.{Columns, TransformTheorems}
 use Rattle.pose.proofs.Laws.{length-word_bytes, words-read, words_back, words_append, transform-length, transform-well, transform-format, transform-read, transform-refused}

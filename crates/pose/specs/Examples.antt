@@ -1,6 +1,6 @@
 -- Contents given byte by byte, and the words in them: the order of the words is fixed here, the lengths, and what a refusal hands out.
 use Rattle.std.specs.Prelude.{ℕ, ◌≡◌, List, [], ◌∷◌, ◌++◌, map, take, replicate}
-use Rattle.fields.specs.declared.Written.TheVariants.{Wrote, Refused}
+use Rattle.fields.specs.Answer.{Wrote, Refused}
 use Rattle.pose.specs.declared.Transform.{Transform}
 use Rattle.pose.specs.TransformReader.{transform_fault, transform_of}
 use Rattle.pose.specs.TransformWriter.{transform_written, transform_out}

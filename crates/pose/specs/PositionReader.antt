@@ -1,7 +1,9 @@
 -- The check of a POSITION, and what its reader hands out.
-use Rattle.std.specs.Prelude.{ℕ, ◌/◌, ◌%◌, Bool, cond, ◌||◌, List, [], ◌∷◌, eqb, length, take, replicate}
+use Rattle.std.specs.Prelude.{ℕ, ◌/◌, ◌%◌, Bool, Result, Ok, Err, cond, ◌||◌, List, [], ◌∷◌, eqb, length, take, replicate}
 use Rattle.fields.specs.Numbers.{be_at}
-use Rattle.pose.specs.declared.PositionRead.{PositionRead}
+use Rattle.fields.specs.declared.fault.Fault.{Fault}
+use Rattle.fields.specs.Fault.{fault_number}
+use Rattle.pose.specs.declared.Position.{Position}
 use Rattle.pose.specs.Words.{word_size}
 use Rattle.pose.specs.Position.{most_words}
 
@@ -29,6 +31,12 @@ position_at content =
     ∷ be_at 4 24 content
     ∷ []
 
+-- the number (rule 5.1), and 3, 6 or 7 words, with zeros past them
+pub record PositionRead : Type 0 where
+  pub number : ℕ
+  pub count : ℕ
+  pub words : List ℕ
+
 -- what is handed out: the words, and how many of them there are
 abbrev pub some_position : List ℕ → PositionRead
 some_position content = record { number = 0; count = length content / word_size; words = position_at content }
@@ -36,6 +44,11 @@ some_position content = record { number = 0; count = length content / word_size;
 -- with a refusal no words, and zeros in their places
 abbrev pub no_position : ℕ → PositionRead
 no_position n = record { number = n; count = 0; words = replicate most_words 0 }
+
+-- the code's answer
+abbrev pub position_read : Result Position Fault → PositionRead
+position_read (Ok p) = record { number = 0; count = p.count; words = p.words }
+position_read (Err f) = no_position (fault_number f)
 
 -- the reader's answer
 unfoldable pub position_of : List ℕ → PositionRead

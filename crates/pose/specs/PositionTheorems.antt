@@ -2,10 +2,8 @@
 use Rattle.std.specs.Prelude.{ℕ, ◌*◌, ◌-◌, ◌≤◌, ◌≡◌, List, ◌++◌, length, take, drop, replicate}
 use Rattle.fields.specs.Bytes.{Bytes}
 use Rattle.fields.specs.Formats.{TwoWay}
-use Rattle.fields.specs.Answer.{written_number}
+use Rattle.fields.specs.Answer.{Written, Wrote, written_number}
 use Rattle.fields.specs.Writers.{writer_fault}
-use Rattle.fields.specs.declared.Written.{Written}
-use Rattle.fields.specs.declared.Written.TheVariants.{Wrote}
 use Rattle.pose.specs.Words.{word_bytes}
 use Rattle.pose.specs.Position.{WellPosition}
 use Rattle.pose.specs.PositionReader.{position_fault, position_of, position_words}

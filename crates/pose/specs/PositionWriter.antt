@@ -1,7 +1,7 @@
 -- The writer of words into a buffer: check 8, then 20.
 use Rattle.std.specs.Prelude.{ℕ, List, length}
 use Rattle.fields.specs.Writers.{written_by, out_by, WriterPromise}
-use Rattle.fields.specs.declared.Written.{Written}
+use Rattle.fields.specs.Answer.{Written}
 use Rattle.pose.specs.Words.{word_bytes}
 use Rattle.pose.specs.PositionReader.{count_fault}
 

@@ -1,8 +1,9 @@
 -- The check of a TRANSFORM, and what its reader hands out.
-use Rattle.std.specs.Prelude.{ℕ, cond, List, [], ◌∷◌, eqb, length}
+use Rattle.std.specs.Prelude.{ℕ, Result, Ok, Err, cond, List, [], ◌∷◌, eqb, length}
 use Rattle.fields.specs.Numbers.{be_at}
+use Rattle.fields.specs.declared.fault.Fault.{Fault}
+use Rattle.fields.specs.Fault.{fault_number}
 use Rattle.pose.specs.declared.Transform.{Transform}
-use Rattle.pose.specs.declared.TransformRead.{TransformRead}
 use Rattle.pose.specs.Transform.{transform_size}
 
 -- check 8
@@ -23,6 +24,16 @@ transform_at content =
 abbrev pub no_transform : Transform
 no_transform =
     record { column1 = 0 ∷ 0 ∷ 0 ∷ []; column2 = 0 ∷ 0 ∷ 0 ∷ []; column3 = 0 ∷ 0 ∷ 0 ∷ []; translation = 0 ∷ 0 ∷ 0 ∷ [] }
+
+-- the number (rule 5.1), and the transform
+pub record TransformRead : Type 0 where
+  pub number : ℕ
+  pub transform : Transform
+
+-- the code's answer
+abbrev pub transform_read : Result Transform Fault → TransformRead
+transform_read (Ok t) = record { number = 0; transform = t }
+transform_read (Err f) = record { number = fault_number f; transform = no_transform }
 
 -- the reader's answer
 unfoldable pub transform_of : List ℕ → TransformRead

@@ -2,10 +2,8 @@
 use Rattle.std.specs.Prelude.{ℕ, ◌≤◌, ◌≡◌, List, ◌++◌, length, take, drop}
 use Rattle.fields.specs.Bytes.{Bytes}
 use Rattle.fields.specs.Formats.{TwoWay}
-use Rattle.fields.specs.Answer.{written_number}
+use Rattle.fields.specs.Answer.{Written, Wrote, written_number}
 use Rattle.fields.specs.Writers.{writer_fault}
-use Rattle.fields.specs.declared.Written.{Written}
-use Rattle.fields.specs.declared.Written.TheVariants.{Wrote}
 use Rattle.pose.specs.declared.Transform.{Transform}
 use Rattle.pose.specs.Words.{Words, word_bytes}
 use Rattle.pose.specs.Transform.{WellTransform, transform_words, transform_bytes}

@@ -1,7 +1,7 @@
 -- The writer of a transform into a buffer: 20 is its only refusal.
 use Rattle.std.specs.Prelude.{ℕ, List}
 use Rattle.fields.specs.Writers.{written_by, out_by, WriterPromise}
-use Rattle.fields.specs.declared.Written.{Written}
+use Rattle.fields.specs.Answer.{Written}
 use Rattle.pose.specs.declared.Transform.{Transform}
 use Rattle.pose.specs.Transform.{transform_bytes}
 

@@ -11,17 +11,16 @@ use Rattle.fields.specs.Text.{is_text}
 use Rattle.message.specs.LayoutNumber.{layout_of}
 use Rattle.history.specs.Calls.{look}
 use Rattle.history.specs.Summary.{is_allowed, allowed_fault, clock_fault}
-use Rattle.panel.specs.declared.Panel.{Panel}
+use Rattle.panel.specs.Records.{Panel, LookResult}
 use Rattle.panel.specs.declared.Value.{Value}
 use Rattle.panel.specs.declared.LookAnswer.{LookAnswer}
-use Rattle.panel.specs.declared.LookResult.{LookResult}
 use Rattle.panel.specs.Calls.{add_of, add_fault, link_of, look_of}
 use Rattle.panel.specs.Demand3.{panel_next, panel_after}
 use Rattle.history.specs.BookExamples.{arm_bytes_calls}
 use Rattle.panel.specs.Examples.{ArmLook, arm_value, zero_value}
 use Rattle.panel.proofs.Laws.Demand3.{demand-3}
 use Rattle.panel.proofs.Examples as panel
-use Rattle.replay.specs.declared.CallAnswer.TheVariants.{Accepted, Refused}
+use Rattle.replay.specs.Records.{Accepted, Refused}
 use Rattle.replay.specs.Script.{call_of, calls_within, calls_in}
 use Rattle.replay.specs.Replay.{without_value, shown_as, after_look, performed, answer_among, answer_at, look_after}
 use Rattle.replay.specs.Examples.{arm_script, Examples}

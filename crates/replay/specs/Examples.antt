@@ -6,9 +6,7 @@ use Rattle.message.specs.Samples.{arm_bytes}
 use Rattle.message.specs.declared.Layout.TheVariants.{New, Old}
 use Rattle.history.specs.Calls.{Call, add, link_up, link_down, message, look, green, grey, refused, accepted, added, empty, shown}
 use Rattle.panel.specs.Examples.{arm_value, zero_value}
-use Rattle.replay.specs.declared.CallAnswer.{CallAnswer}
-use Rattle.replay.specs.declared.CallAnswer.TheVariants.{Accepted, Added, Empty, Green, Grey, Refused, NoCall}
-use Rattle.replay.specs.declared.Answered.{Answered}
+use Rattle.replay.specs.Records.{CallAnswer, Accepted, Added, Empty, Green, Grey, Refused, NoCall, Answered}
 use Rattle.replay.specs.Script.{calls_in}
 use Rattle.replay.specs.Replay.{answer_at, look_after, saying}
 

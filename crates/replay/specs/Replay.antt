@@ -4,22 +4,15 @@ use Rattle.std.proofs.Math.Option.{Option, none, some}
 use Rattle.history.specs.Calls.{Call, look, green, grey, Answer, refused, accepted, added, empty, shown, value_bytes, Padded}
 use Rattle.history.specs.Reading.{Reader}
 use Rattle.history.specs.History.{call_at, IsColoured, Answers}
-use Rattle.panel.specs.declared.Panel.{Panel}
-use Rattle.panel.specs.declared.AddResult.{AddResult}
-use Rattle.panel.specs.declared.AddAnswer.{AddAnswer}
-use Rattle.panel.specs.declared.AddAnswer.TheVariants as add-answer
-use Rattle.panel.specs.declared.CallResult.{CallResult}
-use Rattle.panel.specs.declared.LookResult.{LookResult}
+use Rattle.panel.specs.Records.{Panel, AddResult, AddAnswer, CallResult, LookResult}
+use Rattle.panel.specs.Records as add-answer
 use Rattle.panel.specs.declared.LookAnswer.{LookAnswer}
 use Rattle.panel.specs.declared.LookAnswer.TheVariants as look-answer
 use Rattle.panel.specs.Tiles.{no_value}
 use Rattle.panel.specs.Calls.{fresh_panel, look_of}
 use Rattle.panel.specs.Answers.{Result, of_add, of_call, of_look}
 use Rattle.panel.specs.Demand3.{result_of, panel_next, panel_after}
-use Rattle.replay.specs.declared.CallAnswer.{CallAnswer}
-use Rattle.replay.specs.declared.CallAnswer.TheVariants.{Accepted, Added, Empty, Green, Grey, Refused, NoCall}
-use Rattle.replay.specs.declared.Answered.{Answered}
-use Rattle.replay.specs.declared.Performed.{Performed}
+use Rattle.replay.specs.Records.{CallAnswer, Accepted, Added, Empty, Green, Grey, Refused, NoCall, Answered, Performed}
 use Rattle.replay.specs.Script.{calls_in}
 
 -- ---- by the panel's definitions
@@ -30,6 +23,10 @@ without_value a = record { answer = a; value = no_value }
 abbrev pub added_as : AddAnswer → CallAnswer
 added_as (add-answer.Added i) = Added i
 added_as (add-answer.Refused n) = Refused n
+
+-- a link or message call, by its number
+abbrev pub called_as : ℕ → CallAnswer
+called_as n = cond (eqb n 0) Accepted (Refused n)
 
 abbrev pub shown_as : LookAnswer → CallAnswer
 shown_as look-answer.Empty = Empty

@@ -2,6 +2,7 @@
 //
 //   H stream   the header's number and fields, its CRC as 16 hexadecimal digits, and its mark; the type and the device name
 //   s stamp    the seconds and the nanoseconds of a time stamp of eight bytes
+use fields::number::Number;
 use std::io;
 use vector_records::{print_bytes, print_crc, print_mark, print_number};
 
@@ -20,7 +21,8 @@ pub fn print_header(rt: &impl Print, stream: &[u8]) -> io::Result<()> {
 }
 
 pub fn print_stamp(rt: &impl Print, stamp: &[u8]) -> io::Result<()> {
-    let time_stamp = fields::number::be64(stamp, 0);
-    print_number(rt, header::time_stamp::seconds(time_stamp) as u64)?;
-    print_number(rt, header::time_stamp::nanoseconds(time_stamp) as u64)
+    let time_stamp = u64::read(stamp, 0);
+    let seconds = header::time_stamp::seconds(time_stamp);
+    let nanoseconds = header::time_stamp::nanoseconds(time_stamp);
+    print!(rt; " {seconds} {nanoseconds}")
 }

@@ -4,9 +4,10 @@
 //                       the further bytes and the metadata; the CRC of the content
 //   Q length, patches   for a stream of so many zeros, patched: the number and the step, the places of the content and the metadata, the
 //                       mark
+use fields::number::Number;
 use message::{Answer, Layout};
 use std::io;
-use vector_records::{print_bytes, print_crc, print_mark, print_number};
+use vector_records::{ROOM, print_bytes, print_crc, print_mark, print_number};
 
 fn print_front(rt: &impl Print, answer: Answer) -> io::Result<()> {
     print_number(rt, answer.number as u64)?;
@@ -48,8 +49,10 @@ fn print_read(rt: &impl Print, layout: Layout, stream: &[u8]) -> io::Result<()> 
 }
 
 pub fn print_message(rt: &impl Print, stream: &[u8]) -> io::Result<()> {
-    print_read(rt, Layout::New, stream)?;
-    print_read(rt, Layout::Old, stream)
+    for layout in [Layout::New, Layout::Old] {
+        print_read(rt, layout, stream)?;
+    }
+    Ok(())
 }
 
 fn print_sections(rt: &impl Print, layout: Layout, stream: &[u8]) -> io::Result<()> {
@@ -60,9 +63,11 @@ fn print_sections(rt: &impl Print, layout: Layout, stream: &[u8]) -> io::Result<
 
 #[inline(never)]
 pub fn print_patched(rt: &impl Print, length: &[u8], patches: &[u8]) -> io::Result<()> {
-    let mut zeros = vector_records::buffer(0);
+    let mut zeros: [u8; ROOM] = vector_records::filled(0);
     vector_records::patch(patches, &mut zeros);
-    let stream = fields::slice::first(&zeros, fields::number::be32(length, 0) as usize);
-    print_sections(rt, Layout::New, stream)?;
-    print_sections(rt, Layout::Old, stream)
+    let stream = fields::slice::first(&zeros, u32::read(length, 0) as usize);
+    for layout in [Layout::New, Layout::Old] {
+        print_sections(rt, layout, stream)?;
+    }
+    Ok(())
 }

@@ -34,6 +34,8 @@ fn print_steps_in(rt: &impl Print, layout: Layout, stream: &[u8]) -> io::Result<
 }
 
 pub fn print_steps(rt: &impl Print, stream: &[u8]) -> io::Result<()> {
-    print_steps_in(rt, Layout::New, stream)?;
-    print_steps_in(rt, Layout::Old, stream)
+    for layout in [Layout::New, Layout::Old] {
+        print_steps_in(rt, layout, stream)?;
+    }
+    Ok(())
 }

@@ -9,23 +9,23 @@
 //                              a message whose sections are so many zeros each, the metadata patched
 //
 // For W, whose buffer is long, the CRC of the buffer stands for it.
-use fields::Written;
-use fields::number::{be8, be16, be32, be64};
+use fields::fault::Fault;
+use fields::number::Number;
 use header::HeaderFields;
-use message::{FixedFields, Layout};
+use message::{Layout, MessageFields};
 use std::io;
-use vector_records::{after_field, field, print_bytes, print_crc, print_written, room};
+use vector_records::{ROOM, after_field, field, print_bytes, print_crc, print_written, room};
 
 fn header_fields(s: &[u8]) -> HeaderFields {
     HeaderFields {
-        version: be16(s, 0),
-        time_stamp: be64(s, 2),
-        body_size: be64(s, 10) as usize,
-        crc: be64(s, 18),
+        version: u16::read(s, 0),
+        time_stamp: u64::read(s, 2),
+        body_size: u64::read(s, 10) as usize,
+        crc: u64::read(s, 18),
     }
 }
 
-fn write_header(given: &[u8], out: &mut [u8]) -> Written {
+fn write_header(given: &[u8], out: &mut [u8]) -> Result<usize, Fault> {
     let texts = after_field(given);
     header::write_header(
         header_fields(field(given)),
@@ -35,34 +35,25 @@ fn write_header(given: &[u8], out: &mut [u8]) -> Written {
     )
 }
 
-fn fixed_fields(s: &[u8]) -> FixedFields {
-    FixedFields {
-        version: be16(s, 0),
-        time_stamp: be64(s, 2),
-        id: be32(s, 10),
-    }
-}
-
-// Writes the message that a record gives, with these sections.
-fn write_sections(
-    layout: Layout,
-    given: &[u8],
-    further: &[u8],
-    content: &[u8],
-    metadata: &[u8],
-    out: &mut [u8],
-) -> Written {
+// The message that a record gives, with these sections.
+fn message_of<'a>(
+    given: &'a [u8],
+    further: &'a [u8],
+    content: &'a [u8],
+    metadata: &'a [u8],
+) -> MessageFields<'a> {
+    let fixed = field(given);
     let type_text = after_field(given);
-    message::write(
-        layout,
-        fixed_fields(field(given)),
-        field(type_text),
-        field(after_field(type_text)),
+    MessageFields {
+        version: u16::read(fixed, 0),
+        time_stamp: u64::read(fixed, 2),
+        id: u32::read(fixed, 10),
+        type_text: field(type_text),
+        device_name: field(after_field(type_text)),
         further,
         content,
         metadata,
-        out,
-    )
+    }
 }
 
 // The fields after fixed, type and name.
@@ -70,93 +61,68 @@ fn after_texts(given: &[u8]) -> &[u8] {
     after_field(after_field(after_field(given)))
 }
 
-fn write_message(layout: Layout, given: &[u8], out: &mut [u8]) -> Written {
+fn write_message(layout: Layout, given: &[u8], out: &mut [u8]) -> Result<usize, Fault> {
     let further = after_texts(given);
     let content = after_field(further);
-    write_sections(
-        layout,
+    let message = message_of(
         given,
         field(further),
         field(content),
         field(after_field(content)),
-        out,
-    )
+    );
+    message::write(layout, message, out)
 }
 
 // As many zeros as the field at the front says.
 fn zeros_given<'a>(zeros: &'a [u8], given: &[u8]) -> &'a [u8] {
-    fields::slice::first(zeros, be32(field(given), 0) as usize)
+    fields::slice::first(zeros, u32::read(field(given), 0) as usize)
 }
 
 // The sections are zeros, the metadata patched.
 #[inline(never)]
-fn write_zeros(layout: Layout, given: &[u8], out: &mut [u8]) -> Written {
+fn write_zeros(layout: Layout, given: &[u8], out: &mut [u8]) -> Result<usize, Fault> {
     let further = after_texts(given);
     let content = after_field(further);
     let metadata = after_field(content);
-    let zeros = vector_records::buffer(0);
-    let mut patched = vector_records::buffer(0);
+    let zeros: [u8; ROOM] = vector_records::filled(0);
+    let mut patched: [u8; ROOM] = vector_records::filled(0);
     vector_records::patch(field(after_field(metadata)), &mut patched);
-    write_sections(
-        layout,
+    let message = message_of(
         given,
         zeros_given(&zeros, further),
         zeros_given(&zeros, content),
         zeros_given(&patched, metadata),
-        out,
-    )
-}
-
-fn print_header_out(rt: &impl Print, given: &[u8], out: &mut [u8]) -> io::Result<()> {
-    print_written(rt, write_header(given, &mut *out))?;
-    print_bytes(rt, out)
+    );
+    message::write(layout, message, out)
 }
 
 pub fn print_header(rt: &impl Print, out: &[u8], given: &[u8]) -> io::Result<()> {
-    let mut buffer = [be8(out, 4); 4096];
+    let mut buffer = [u8::read(out, 4); 4096];
     let n = room(out, &buffer);
-    print_header_out(rt, given, &mut buffer[..n])
-}
-
-fn print_message_out(
-    rt: &impl Print,
-    layout: Layout,
-    given: &[u8],
-    out: &mut [u8],
-) -> io::Result<()> {
-    print_written(rt, write_message(layout, given, &mut *out))?;
-    print_bytes(rt, out)
-}
-
-fn print_message_in(rt: &impl Print, layout: Layout, out: &[u8], given: &[u8]) -> io::Result<()> {
-    let mut buffer = [be8(out, 4); 4096];
-    let n = room(out, &buffer);
-    print_message_out(rt, layout, given, &mut buffer[..n])
+    let stream = &mut buffer[..n];
+    print_written(rt, write_header(given, &mut *stream))?;
+    print_bytes(rt, stream)
 }
 
 pub fn print_message(rt: &impl Print, out: &[u8], given: &[u8]) -> io::Result<()> {
-    print_message_in(rt, Layout::New, out, given)?;
-    print_message_in(rt, Layout::Old, out, given)
-}
-
-fn print_zeros_out(
-    rt: &impl Print,
-    layout: Layout,
-    given: &[u8],
-    out: &mut [u8],
-) -> io::Result<()> {
-    print_written(rt, write_zeros(layout, given, &mut *out))?;
-    print_crc(rt, crc64::crc64(out))
+    for layout in [Layout::New, Layout::Old] {
+        let mut buffer = [u8::read(out, 4); 4096];
+        let n = room(out, &buffer);
+        let lent = &mut buffer[..n];
+        print_written(rt, write_message(layout, given, &mut *lent))?;
+        print_bytes(rt, lent)?;
+    }
+    Ok(())
 }
 
 #[inline(never)]
-fn print_zeros_in(rt: &impl Print, layout: Layout, out: &[u8], given: &[u8]) -> io::Result<()> {
-    let mut buffer = vector_records::buffer(be8(out, 4));
-    let n = room(out, &buffer);
-    print_zeros_out(rt, layout, given, &mut buffer[..n])
-}
-
 pub fn print_zeros(rt: &impl Print, out: &[u8], given: &[u8]) -> io::Result<()> {
-    print_zeros_in(rt, Layout::New, out, given)?;
-    print_zeros_in(rt, Layout::Old, out, given)
+    for layout in [Layout::New, Layout::Old] {
+        let mut buffer: [u8; ROOM] = vector_records::filled(u8::read(out, 4));
+        let n = room(out, &buffer);
+        let lent = &mut buffer[..n];
+        print_written(rt, write_zeros(layout, given, &mut *lent))?;
+        print_crc(rt, crc64::crc64(lent))?;
+    }
+    Ok(())
 }

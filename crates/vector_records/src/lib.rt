@@ -7,15 +7,16 @@ ghost use Rattle.std.specs.Io.KnownBytes.{Consumes, IsAtEnd};
 ghost use Rattle.fields.specs.Numbers.{be_at};
 ghost use Rattle.vector_records.specs.Records.{field_of, after_field, is_whole, patched};
 
-use fields::Written;
-use std::io;
+use fields::fault::{Fault, number_of};
+use fields::number::Number;
 use std::io::Read;
+use std::{fmt, io};
 
 // Where the field at the front ends.
 fn end(s: &[u8]) -> usize
     ensures { result ≡ 2 + be_at 2 0 s.now }
 {
-    2 + fields::number::be16(s, 0) as usize
+    2 + usize::from(u16::read(s, 0))
 }
 
 // Are all bytes of the field at the front there?
@@ -29,7 +30,7 @@ pub fn is_whole(s: &[u8]) -> bool
 pub fn field(s: &[u8]) -> &[u8]
     ensures { result.now ≡ field_of s.now }
 {
-    fields::slice::part(s, 2, fields::number::be16(s, 0) as usize)
+    fields::slice::part(s, 2, usize::from(u16::read(s, 0)))
 }
 
 // What follows the field at the front.
@@ -39,22 +40,53 @@ pub fn after_field(s: &[u8]) -> &[u8]
     fields::slice::rest(s, end(s))
 }
 
-// Room for a program's input, or for the largest BIND whose children hold nothing, of 1,376,218 bytes. The second promise is what
-// lending the array as a slice needs.
-pub fn buffer(fill: u8) -> [u8; 1376256]
-    ensures bytes { result ≡ replicate 1376256 fill }
-    ensures size { 1376256 ≡ length result }
-{
-    [fill; 1376256]
+// The fields of a run, from the front on. The run ends before a field that is cut short.
+#[derive(Clone, Copy)]
+pub struct Records<'a> {
+    left: &'a [u8],
 }
+
+impl<'a> Records<'a> {
+    pub fn new(s: &'a [u8]) -> Records<'a>
+        ensures { result.left.now ≡ s.now }
+    {
+        Records { left: s }
+    }
+}
+
+impl<'a> Iterator for Records<'a> {
+    ghost use Rattle.std.specs.Iterator.{at_most};
+    ghost use Rattle.vector_records.specs.Records.{GivesField};
+
+    type Item = &'a [u8];
+
+    ghost next_gives = { λ old given new. GivesField old.left.now given new.left.now };
+
+    ghost remaining = { λ records. at_most (length records.left.now) };
+
+    fn next(&mut self) -> Option<&'a [u8]> {
+        if !is_whole(self.left) {
+            return None;
+        }
+        let record = field(self.left);
+        self.left = after_field(self.left);
+        Some(record)
+    }
+}
+
+// Room for a program's input, or for the largest BIND whose children hold nothing, of 1,376,218 bytes.
+pub const ROOM: usize = 1376256;
 
 // Room for a longer input. `vectors` has it and four more buffers on its stack, which is 8 MiB. So that one call's buffers do not stand on it
 // beside another's, no function with such a buffer is compiled into its caller.
-pub fn long_buffer(fill: u8) -> [u8; 2097152]
-    ensures bytes { result ≡ replicate 2097152 fill }
-    ensures size { 2097152 ≡ length result }
+pub const LONG_ROOM: usize = 2097152;
+
+// A buffer of N bytes, all the same. The second promise is what lending the array as a slice needs.
+pub fn filled<const N: usize>(fill: u8) -> [u8; N]
+    ensures bytes { result ≡ replicate N fill }
+    ensures size { N ≡ length result }
 {
-    [fill; 2097152]
+    [fill; N]
 }
 
 // How much of a buffer a record asks for, in the four bytes at the front: all of it where they ask for more.
@@ -62,20 +94,16 @@ pub fn room(wanted: &[u8], buffer: &[u8]) -> usize
     ensures in_bounds { result ≤ length buffer.now }
     ensures value { result ≡ min (be_at 4 0 wanted.now) (length buffer.now) }
 {
-    let n = fields::number::be32(wanted, 0) as usize;
-    if n < buffer.len() { n } else { buffer.len() }
+    let n = u32::read(wanted, 0) as usize;
+    n.min(buffer.len())
 }
 
 // Stores two bytes at each of some places: patches are runs of six bytes, the place in four and what is stored in two.
 pub fn patch(patches: &[u8], out: &mut [u8])
     ensures { out.new ≡ patched patches.now out.old }
 {
-    let mut left = patches;
-    while 6 <= left.len() {
-        let at = fields::number::be32(left, 0) as usize;
-        fields::store::put(fields::slice::part(left, 4, 2), at, &mut *out);
-        let next = fields::slice::rest(left, 6);
-        left = next;
+    for patch in patches.chunks_exact(6) {
+        fields::store::put(&patch[4..], u32::read(patch, 0) as usize, &mut *out);
     }
 }
 
@@ -86,6 +114,7 @@ pub fn read_full<R: Read>(reader: &mut R, buffer: &mut [u8]) -> io::Result<usize
     ensures bytes { IfOk result (λ n. Consumes (R.remaining reader.old) (R.remaining reader.new) (take n buffer.new)) }
     ensures end { IfOk result (λ n. n < length buffer.new → IsAtEnd (R.remaining reader.new)) }
 {
+    // It goes by what each read gave, and counts no index.
     let mut done = 0;
     while done < buffer.len() {
         let n = reader.read(&mut buffer[done..])?;
@@ -99,8 +128,7 @@ pub fn read_full<R: Read>(reader: &mut R, buffer: &mut [u8]) -> io::Result<usize
 
 // The first word of a line: the letter of the record's kind.
 pub fn print_kind(rt: &impl Print, kind: u8) -> io::Result<()> {
-    let letter = [kind; 1];
-    rt.write_all(&letter)
+    rt.write_all(&[kind])
 }
 
 // Each further word comes after a space. A number is in decimal digits.
@@ -120,41 +148,34 @@ pub fn print_crc(rt: &impl Print, crc: u64) -> io::Result<()> {
 
 // A mark, 1 where it is true and 0 where it is not.
 pub fn print_mark(rt: &impl Print, mark: bool) -> io::Result<()> {
-    if mark {
-        return print_number(rt, 1);
-    }
-    print_number(rt, 0)
+    print_number(rt, u64::from(mark))
 }
 
 // The answer of a writer: its number, and how many bytes it wrote.
-pub fn print_written(rt: &impl Print, written: Written) -> io::Result<()> {
-    print_number(rt, written.number() as u64)?;
-    print_number(rt, written.count() as u64)
+pub fn print_written(rt: &impl Print, written: Result<usize, Fault>) -> io::Result<()> {
+    print!(rt; " {} {}", number_of(written), written.unwrap_or(0))
 }
 
-// Bytes, as two hexadecimal digits each; a dash where there are none.
+// Bytes as a word: two hexadecimal digits each, or a dash where there are none.
+#[derive(Clone, Copy)]
+pub struct Hex<'a>(pub &'a [u8]);
+
+impl fmt::Display for Hex<'_> {
+    fn fmt<W: fmt::Write>(&self, f: &mut fmt::Formatter<W>) -> fmt::Result {
+        if self.0.is_empty() {
+            return f.write_str("-");
+        }
+        for byte in self.0 {
+            write!(f, "{byte:02x}")?;
+        }
+        Ok(())
+    }
+}
+
 pub fn print_bytes(rt: &impl Print, s: &[u8]) -> io::Result<()> {
-    print!(rt; " ")?;
-    if s.len() == 0 {
-        print!(rt; "-")?;
-    }
-    print_digits(rt, s)
-}
-
-// Eight bytes at a time are a number.
-fn print_digits(rt: &impl Print, s: &[u8]) -> io::Result<()> {
-    let mut left = s;
-    while 0 < left.len() {
-        let front = fields::slice::first(left, 8);
-        let number = fields::number::be64(front, 0);
-        let digits = 2 * front.len();
-        print!(rt; "{number:0digits$x}")?;
-        let next = fields::slice::rest(left, 8);
-        left = next;
-    }
-    Ok(())
+    print!(rt; " {}", Hex(s))
 }
 
 pub fn end_line(rt: &impl Print) -> io::Result<()> {
-    println!(rt; "")
+    println!(rt)
 }

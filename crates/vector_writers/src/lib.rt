@@ -11,169 +11,170 @@
 // For n and m, whose buffers are long, the CRC of the buffer stands for it.
 #![tactic(auto)]
 
-use fields::Written;
-use fields::number::{be8, be16, be32, halves3, words3};
+use fields::fault::Fault;
+use fields::number::{Number, three};
 use image::ImageHeader;
 use pose::Transform;
 use std::io;
-use vector_records::{after_field, field, print_bytes, print_crc, print_written, room};
+use vector_records::{ROOM, after_field, field, print_bytes, print_crc, print_written, room};
 
-fn write_transform(given: &[u8], out: &mut [u8]) -> Written {
+fn write_transform(given: &[u8], out: &mut [u8]) -> Result<usize, Fault> {
     let s = field(given);
-    let column1 = words3(s, 0);
-    let column2 = words3(s, 12);
-    let column3 = words3(s, 24);
-    let translation = words3(s, 36);
     let transform = Transform {
-        column1: column1,
-        column2: column2,
-        column3: column3,
-        translation: translation,
+        column1: three(s, 0),
+        column2: three(s, 12),
+        column3: three(s, 24),
+        translation: three(s, 36),
     };
     pose::write_transform(transform, out)
 }
 
-// The first so many words, all where there are fewer.
-fn first_words(words: &[u32], n: usize) -> &[u32] {
-    if n <= words.len() { &words[..n] } else { words }
+// The first so many elements, all where there are fewer.
+fn first<T>(all: &[T], n: usize) -> &[T] {
+    if n <= all.len() { &all[..n] } else { all }
 }
 
-fn write_position(given: &[u8], out: &mut [u8]) -> Written {
+fn write_position(given: &[u8], out: &mut [u8]) -> Result<usize, Fault> {
     let s = field(given);
-    let a = words3(s, 0);
-    let b = words3(s, 12);
-    let c = words3(s, 24);
-    let d = words3(s, 36);
-    let all = [
-        a[0], a[1], a[2], b[0], b[1], b[2], c[0], c[1], c[2], d[0], d[1], d[2],
-    ];
-    pose::write_position(first_words(&all, s.len() / 4), out)
+    let mut all = [0; 12];
+    for (word, part) in all.iter_mut().zip(s.chunks_exact(4)) {
+        *word = u32::read(part, 0);
+    }
+    pose::write_position(first(&all, s.len() / 4), out)
 }
 
 fn header(s: &[u8]) -> ImageHeader {
-    let size = halves3(s, 6);
-    let axis_i = words3(s, 12);
-    let axis_j = words3(s, 24);
-    let axis_k = words3(s, 36);
-    let centre = words3(s, 48);
-    let offset = halves3(s, 60);
-    let sub_size = halves3(s, 66);
     ImageHeader {
-        version: be16(s, 0),
-        components: be8(s, 2),
-        scalar_type: be8(s, 3),
-        endian: be8(s, 4),
-        coordinate: be8(s, 5),
-        size: size,
-        axis_i: axis_i,
-        axis_j: axis_j,
-        axis_k: axis_k,
-        centre: centre,
-        offset: offset,
-        sub_size: sub_size,
+        version: u16::read(s, 0),
+        components: u8::read(s, 2),
+        scalar_type: u8::read(s, 3),
+        endian: u8::read(s, 4),
+        coordinate: u8::read(s, 5),
+        size: three(s, 6),
+        axis_i: three(s, 12),
+        axis_j: three(s, 24),
+        axis_k: three(s, 36),
+        centre: three(s, 48),
+        offset: three(s, 60),
+        sub_size: three(s, 66),
     }
 }
 
-fn write_image(given: &[u8], out: &mut [u8]) -> Written {
+fn write_image(given: &[u8], out: &mut [u8]) -> Result<usize, Fault> {
     image::write_image(header(field(given)), field(after_field(given)), out)
 }
 
 // The field at a place of a list, whose first byte is its length.
 fn item(list: &[u8], i: usize) -> &[u8] {
     let mut left = fields::slice::rest(list, 1);
-    let mut k = i;
-    while 0 < k {
-        let next = after_field(left);
-        left = next;
-        k -= 1;
+    for _ in 0..i {
+        left = after_field(left);
     }
     field(left)
 }
 
-// The first so many parts, all where there are fewer.
-fn first_parts<'a, 'b>(parts: &'a [&'b [u8]], n: usize) -> &'a [&'b [u8]] {
-    if n <= parts.len() { &parts[..n] } else { parts }
-}
-
-fn write_lists<'a>(ts: &'a [u8], ns: &'a [u8], cs: &'a [u8], out: &mut [u8]) -> Written {
+fn write_lists<'a>(
+    ts: &'a [u8],
+    ns: &'a [u8],
+    cs: &'a [u8],
+    out: &mut [u8],
+) -> Result<usize, Fault> {
     let types = [item(ts, 0), item(ts, 1), item(ts, 2), item(ts, 3)];
     let names = [item(ns, 0), item(ns, 1), item(ns, 2), item(ns, 3)];
     let contents = [item(cs, 0), item(cs, 1), item(cs, 2), item(cs, 3)];
-    let t = first_parts(&types, be8(ts, 0) as usize);
-    let n = first_parts(&names, be8(ns, 0) as usize);
-    let c = first_parts(&contents, be8(cs, 0) as usize);
+    let t = first(&types, usize::from(u8::read(ts, 0)));
+    let n = first(&names, usize::from(u8::read(ns, 0)));
+    let c = first(&contents, usize::from(u8::read(cs, 0)));
     bind_writer::write_bind(t, n, c, out)
 }
 
-fn write_bind(given: &[u8], out: &mut [u8]) -> Written {
+fn write_bind(given: &[u8], out: &mut [u8]) -> Result<usize, Fault> {
     let second = after_field(given);
     write_lists(field(given), field(second), field(after_field(second)), out)
 }
 
 #[inline(never)]
-fn write_empty(nothing: &[u8], count: usize, out: &mut [u8]) -> Written {
+fn write_empty(nothing: &[u8], count: usize, out: &mut [u8]) -> Result<usize, Fault> {
     let all = [nothing; 65536];
     bind_writer::write_bind(
-        first_parts(&all, count),
-        first_parts(&all, count),
-        first_parts(&all, count),
+        first(&all, count),
+        first(&all, count),
+        first(&all, count),
         out,
     )
 }
 
 // So many children that hold nothing.
-fn write_many(given: &[u8], out: &mut [u8]) -> Written {
-    write_empty(b"", be32(field(given), 0) as usize, out)
+fn write_many(given: &[u8], out: &mut [u8]) -> Result<usize, Fault> {
+    write_empty(b"", u32::read(field(given), 0) as usize, out)
 }
 
-fn write_child<'a>(nothing: &'a [u8], name: &'a [u8], out: &mut [u8]) -> Written {
+fn write_child<'a>(nothing: &'a [u8], name: &'a [u8], out: &mut [u8]) -> Result<usize, Fault> {
     let names = [name];
     let others = [nothing];
     bind_writer::write_bind(&others, &names, &others, out)
 }
 
 // One child, whose name is so many letters.
-fn write_named(given: &[u8], out: &mut [u8]) -> Written {
+fn write_named(given: &[u8], out: &mut [u8]) -> Result<usize, Fault> {
     let letters = [b'A'; 131072];
-    let name = fields::slice::first(&letters, be32(field(given), 0) as usize);
+    let name = fields::slice::first(&letters, u32::read(field(given), 0) as usize);
     write_child(b"", name, out)
 }
 
-fn write_short(kind: u8, given: &[u8], out: &mut [u8]) -> Written {
-    match kind {
-        b't' => write_transform(given, out),
-        b'p' => write_position(given, out),
-        b'i' => write_image(given, out),
-        _ => write_bind(given, out),
-    }
-}
-
-fn print_out(rt: &impl Print, kind: u8, given: &[u8], out: &mut [u8]) -> io::Result<()> {
-    print_written(rt, write_short(kind, given, &mut *out))?;
-    print_bytes(rt, out)
-}
-
-pub fn print_short(rt: &impl Print, kind: u8, out: &[u8], given: &[u8]) -> io::Result<()> {
-    let mut buffer = [be8(out, 4); 4096];
+// Writes into a buffer as long as out says; prints what the writer answers, and the buffer.
+fn print_short<W: Fn(&[u8], &mut [u8]) -> Result<usize, Fault>>(
+    rt: &impl Print,
+    out: &[u8],
+    given: &[u8],
+    write: W,
+) -> io::Result<()>
+    requires { W.IsAlwaysCallable write }
+{
+    let mut buffer = [u8::read(out, 4); 4096];
     let n = room(out, &buffer);
-    print_out(rt, kind, given, &mut buffer[..n])
+    let lent = &mut buffer[..n];
+    print_written(rt, write(given, &mut *lent))?;
+    print_bytes(rt, lent)
 }
 
-fn write_long(kind: u8, given: &[u8], out: &mut [u8]) -> Written {
-    match kind {
-        b'n' => write_named(given, out),
-        _ => write_many(given, out),
-    }
+pub fn print_transform(rt: &impl Print, out: &[u8], given: &[u8]) -> io::Result<()> {
+    print_short(rt, out, given, write_transform)
 }
 
-fn print_out_crc(rt: &impl Print, kind: u8, given: &[u8], out: &mut [u8]) -> io::Result<()> {
-    print_written(rt, write_long(kind, given, &mut *out))?;
-    print_crc(rt, crc64::crc64(out))
+pub fn print_position(rt: &impl Print, out: &[u8], given: &[u8]) -> io::Result<()> {
+    print_short(rt, out, given, write_position)
 }
 
+pub fn print_image(rt: &impl Print, out: &[u8], given: &[u8]) -> io::Result<()> {
+    print_short(rt, out, given, write_image)
+}
+
+pub fn print_bind(rt: &impl Print, out: &[u8], given: &[u8]) -> io::Result<()> {
+    print_short(rt, out, given, write_bind)
+}
+
+// The same with a long buffer, and its CRC.
 #[inline(never)]
-pub fn print_long(rt: &impl Print, kind: u8, out: &[u8], given: &[u8]) -> io::Result<()> {
-    let mut buffer = vector_records::buffer(be8(out, 4));
+fn print_long<W: Fn(&[u8], &mut [u8]) -> Result<usize, Fault>>(
+    rt: &impl Print,
+    out: &[u8],
+    given: &[u8],
+    write: W,
+) -> io::Result<()>
+    requires { W.IsAlwaysCallable write }
+{
+    let mut buffer: [u8; ROOM] = vector_records::filled(u8::read(out, 4));
     let n = room(out, &buffer);
-    print_out_crc(rt, kind, given, &mut buffer[..n])
+    let lent = &mut buffer[..n];
+    print_written(rt, write(given, &mut *lent))?;
+    print_crc(rt, crc64::crc64(lent))
+}
+
+pub fn print_named(rt: &impl Print, out: &[u8], given: &[u8]) -> io::Result<()> {
+    print_long(rt, out, given, write_named)
+}
+
+pub fn print_many(rt: &impl Print, out: &[u8], given: &[u8]) -> io::Result<()> {
+    print_long(rt, out, given, write_many)
 }

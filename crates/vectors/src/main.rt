@@ -8,16 +8,18 @@ mod contents;
 mod crc;
 mod cursors;
 
+use fields::number::Number;
 use std::io;
 use vector_messages::{headers, messages, streams, values, writers};
-use vector_records::{after_field, field};
+use vector_records::{LONG_ROOM, Records, after_field, field};
 
 fn print_answer(rt: &impl Print, record: &[u8]) -> io::Result<()> {
-    let kind = fields::number::be8(record, 0);
+    let kind = u8::read(record, 0);
     let first = fields::slice::rest(record, 1);
     let second = after_field(first);
     let third = after_field(second);
     vector_records::print_kind(rt, kind)?;
+    // The letters are the input's format: an enum of kinds would name each of them once more.
     match kind {
         b'K' => crc::print_crc(rt, field(first)),
         b'T' => contents::print_transform(rt, field(first)),
@@ -39,25 +41,22 @@ fn print_answer(rt: &impl Print, record: &[u8]) -> io::Result<()> {
         b'h' => writers::print_header(rt, field(first), second),
         b'w' => writers::print_message(rt, field(first), second),
         b'W' => writers::print_zeros(rt, field(first), second),
-        b't' | b'p' | b'i' | b'b' => vector_writers::print_short(rt, kind, field(first), second),
-        b'n' | b'm' => vector_writers::print_long(rt, kind, field(first), second),
+        b't' => vector_writers::print_transform(rt, field(first), second),
+        b'p' => vector_writers::print_position(rt, field(first), second),
+        b'i' => vector_writers::print_image(rt, field(first), second),
+        b'b' => vector_writers::print_bind(rt, field(first), second),
+        b'n' => vector_writers::print_named(rt, field(first), second),
+        b'm' => vector_writers::print_many(rt, field(first), second),
         _ => Ok(()),
     }?;
     vector_records::end_line(rt)
 }
 
-fn print_answers(rt: &impl Print, records: &[u8]) -> io::Result<()> {
-    let mut left = records;
-    while vector_records::is_whole(left) {
-        print_answer(rt, field(left))?;
-        let next = after_field(left);
-        left = next;
+fn main(rt: HostRuntime) -> io::Result<()> {
+    let mut buffer: [u8; LONG_ROOM] = vector_records::filled(0);
+    let n = vector_records::read_full(&mut rt.stdin(), &mut buffer)?;
+    for record in Records::new(&buffer[..n]) {
+        print_answer(&rt, record)?;
     }
     Ok(())
-}
-
-fn main(rt: HostRuntime) -> io::Result<()> {
-    let mut buffer = vector_records::long_buffer(0);
-    let n = vector_records::read_full(&mut rt.stdin(), &mut buffer)?;
-    print_answers(&rt, &buffer[..n])
 }

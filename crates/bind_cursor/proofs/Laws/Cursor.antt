@@ -14,8 +14,7 @@ use Rattle.fields.proofs.Laws.Text.{text-take}
 use Rattle.bind_layout.specs.Children.{Child}
 use Rattle.bind_layout.specs.BindLayout.{child_count, headers, data_of, type_of, size_of, after_block}
 use Rattle.content.specs.ContentCheck.{bind_fault, deepest}
-use Rattle.bind_lookup.specs.declared.Place.{Place}
-use Rattle.bind_lookup.specs.ChildLookup.{mark_of, headers_from, names_from, data_from, part_at}
+use Rattle.bind_lookup.specs.ChildLookup.{Place, mark_of, headers_from, names_from, data_from, part_at}
 use Rattle.bind_lookup.specs.LookupTheorems.{HasChildren, AtIndex}
 use Rattle.bind_lookup.proofs.Laws.Lookup.{left-place}
 use Rattle.bind_lookup.proofs.Laws.LookupTheorems.{accepted, count-of, marks, inside, place_at, pad, type-at, name-from, child-content, lookup-theorems}

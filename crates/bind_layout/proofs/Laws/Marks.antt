@@ -9,8 +9,10 @@ use lib.Dec.{leb}
 use lib.ListN.{length, take, drop}
 use Rattle.fields.specs.Lists.{Each, flat}
 use Rattle.fields.specs.Text.{text_ok, text_clean, field_ok}
-use Rattle.fields.specs.Answer.{checked}
-use Rattle.fields.proofs.Laws.Answer.{checked-number, checked-mark, checked-false, checked-same}
+use Rattle.std.specs.Prelude.{Ok, Err}
+use Rattle.fields.specs.declared.fault.Fault.{Fault}
+use Rattle.fields.specs.Answer.{Checked, checked_of, checked}
+use Rattle.fields.proofs.Laws.Answer.{checked-number, checked-mark, checked-false, checked-same, fault_some}
 use Rattle.fields.proofs.Laws.Checks.{and_both, cond-pass}
 use Rattle.fields.proofs.Laws.Lists.{flat-cons}
 use Rattle.fields.proofs.Laws.Tests.{by-test}
@@ -54,18 +56,20 @@ pub types-number : (k : ℕ) (h : List ℕ) → (types_checked k h).number ≡ c
 unfolding types_checked
 types-number k h = checked-number (cond (types_ok k h) 0 10) (types_clean k h)
 
-pub types-passed : (k : ℕ) (h : List ℕ) → (types_checked k h).number ≡ 0 → (types_ok k h ≡ true) × ((types_checked k h).clean ≡ types_clean k h)
+-- what the check of the CTYPEs hands out
+pub types-passed : (k : ℕ) (h : List ℕ) (mark : Bool) → checked_of (Ok mark) ≡ types_checked k h → (types_ok k h ≡ true) × (mark ≡ types_clean k h)
 unfolding types_checked
-types-passed k h e =
-    let z = sym (types-number k h) ∙ e in
-    ((cond-pass (types_ok k h) 9 0 z).0, checked-mark (cond (types_ok k h) 0 10) (types_clean k h) z)
+types-passed k h mark e =
+    let z : cond (types_ok k h) 0 10 ≡ 0 = sym (types-number k h) ∙ sym (ap (λ (c : Checked). c.number) e) in
+    ((cond-pass (types_ok k h) 9 0 z).0, ap (λ (c : Checked). c.clean) e ∙ checked-mark (cond (types_ok k h) 0 10) (types_clean k h) z)
 
-pub types-refused : (k : ℕ) (h : List ℕ) → ((types_checked k h).number ≡ 0 → ⊥) → (types_ok k h ≡ false) × (types_checked k h ≡ checked 10 false)
+pub types-refused : (k : ℕ) (h : List ℕ) (f : Fault) → checked_of (Err f) ≡ types_checked k h → (types_ok k h ≡ false) × (checked_of (Err f) ≡ checked 10 false)
 unfolding types_checked
-types-refused k h e =
+types-refused k h f p =
+    let e : (types_checked k h).number ≡ 0 → ⊥ = λ z. fault_some f (ap (λ (c : Checked). c.number) p ∙ z) in
     by-test (types_ok k h)
     (λ t. absurd (e (types-number k h ∙ ap (λ (b : Bool). cond b 0 10) t)))
-    (λ t. (t, checked-same (cond (types_ok k h) 0 10) 10 (types_clean k h) false (ap (λ (b : Bool). cond b 0 10) t) (λ z. e (types-number k h ∙ z))))
+    (λ t. (t, p ∙ checked-same (cond (types_ok k h) 0 10) 10 (types_clean k h) false (ap (λ (b : Bool). cond b 0 10) t) (λ z. e (types-number k h ∙ z))))
 
 -- of the layout
 -- the layout's test, by the parts as the code has them: the headers are cut twice

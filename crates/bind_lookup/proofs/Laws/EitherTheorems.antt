@@ -13,12 +13,8 @@ use Rattle.fields.proofs.Laws.Tests.{by-test}
 use Rattle.bind_layout.specs.Children.{Child}
 use Rattle.bind_layout.specs.BindLayout.{child_count}
 use Rattle.content.specs.ContentCheck.{bind_fault, deepest}
-use Rattle.bind_lookup.specs.declared.Place.{Place}
-use Rattle.bind_lookup.specs.declared.EitherPlace.{EitherPlace}
-use Rattle.bind_lookup.specs.declared.Source.{Source}
-use Rattle.bind_lookup.specs.declared.Source.TheVariants.{Site, Default, Neither}
-use Rattle.bind_lookup.specs.ChildLookup.{index_of, mark_of, index_fault, place_in, place_of}
-use Rattle.bind_lookup.specs.EitherLookup.{either_fault, sourced, either_place, bundle_of, either_part}
+use Rattle.bind_lookup.specs.ChildLookup.{Place, index_of, mark_of, index_fault, place_in, place_of}
+use Rattle.bind_lookup.specs.EitherLookup.{EitherPlace, Source, Site, Default, Neither, either_fault, sourced, either_place, bundle_of, either_part}
 use Rattle.bind_lookup.specs.LookupTheorems.{HasChildren, AtIndex, NoneNamed, FirstNamed, Marks, EitherTheorems}
 use Rattle.bind_lookup.proofs.Laws.LookupTheorems.{accepted, marks, placed-marked, count-of, inside, child-place, child-content, index-named, index-unnamed, place_none, place-refused}
 
@@ -27,16 +23,16 @@ unfolding sourced
 sourced-accepted x p e =
     simp (eq-eqb p.number 0 e) (ap {B = EitherPlace} (λ (n : ℕ). record { number = n; source = x; at = p.at; len = p.len; clean = p.clean }) e)
 
-sourced-refused : (x : Source) (p : Place) → (p.number ≡ 0 → ⊥) → sourced x p ≡ record { number = p.number; source = Neither; at = p.at; len = p.len; clean = p.clean }
+pub sourced-refused : (x : Source) (p : Place) → (p.number ≡ 0 → ⊥) → sourced x p ≡ record { number = p.number; source = Neither; at = p.at; len = p.len; clean = p.clean }
 unfolding sourced
 sourced-refused x p h = simp (ne_eqb p.number 0 h)
 
 module _ (a b x : List ℕ) where
-  from-site : index_of a x < child_count a → either_place a b x ≡ sourced Site (place_in (either_fault a b) (mark_of a) a (index_of a x))
+  pub from-site : index_of a x < child_count a → either_place a b x ≡ sourced Site (place_in (either_fault a b) (mark_of a) a (index_of a x))
   unfolding either_place
   from-site h = simp (lt-ltb (index_of a x) (child_count a) h)
 
-  from-default : child_count a ≤ index_of a x → either_place a b x ≡ sourced Default (place_in (either_fault a b) (mark_of b) b (index_of b x))
+  pub from-default : child_count a ≤ index_of a x → either_place a b x ≡ sourced Default (place_in (either_fault a b) (mark_of b) b (index_of b x))
   unfolding either_place
   from-default h = simp (le-ltb (index_of a x) (child_count a) h)
 

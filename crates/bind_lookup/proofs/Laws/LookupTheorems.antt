@@ -23,16 +23,14 @@ use Rattle.content.specs.Tree.{Content, transform, position, image, bind, other,
 use Rattle.content.specs.ContentCheck.{bind_fault, content_fault, deepest}
 use Rattle.content.proofs.Laws.Kinds.{differ}
 use Rattle.content.proofs.Laws.Faults.{bind-content}
-use Rattle.fields.specs.declared.Checked.{Checked}
+use Rattle.fields.specs.Answer.{Checked}
 use Rattle.fields.proofs.Laws.Answer.{checked_refused}
 use Rattle.content.specs.ContentCheck.{bind_clean, bind_checked, content_checked}
 use Rattle.content.proofs.Laws.Contents.{content-accepted, content-well}
 use Rattle.content.proofs.Laws.Kinds.{kind-bind}
 use Rattle.content.proofs.Laws.Marks.{mark-to, mark-from}
 use Rattle.content.proofs.Laws.ChildrenWalk.{kind-bound}
-use Rattle.bind_lookup.specs.declared.ChildCount.{ChildCount}
-use Rattle.bind_lookup.specs.declared.Place.{Place}
-use Rattle.bind_lookup.specs.ChildLookup.{mark_of, headers_from, names_from, data_from, index_of, index_in, count_of, index_fault, placed, place_in, place_of, part_at, type_at, name_at}
+use Rattle.bind_lookup.specs.ChildLookup.{Place, ChildCount, mark_of, headers_from, names_from, data_from, index_of, index_in, count_of, index_fault, placed, place_in, place_of, part_at, type_at, name_at}
 use Rattle.bind_lookup.specs.LookupTheorems.{HasChildren, AtIndex, NoneNamed, FirstNamed, Marks, place_among, LookupTheorems}
 use Rattle.bind_lookup.proofs.Laws.Cases.{index_or_none, named_or_none}
 use Rattle.bind_lookup.proofs.Laws.Lookup.{left-place, number-fault}
@@ -120,7 +118,7 @@ module _ (number : ℕ) (mark : Bool) (s : List ℕ) (j : ℕ) where
       (λ e. let n = eqb-false number 0 e in absurd (n (sym (ap (λ (p : Place). p.number) (placed-refused n)) ∙ z)))
 
 module _ (fault : ℕ) (s : List ℕ) (j : ℕ) (e : fault ≡ 0) where
-  number-found : j < child_count s → index_fault fault s j ≡ 0
+  pub number-found : j < child_count s → index_fault fault s j ≡ 0
   unfolding index_fault
   number-found h = else-second fault _ e ∙ simp (lt-ltb j (child_count s) h)
 

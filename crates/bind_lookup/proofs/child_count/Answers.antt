@@ -1,22 +1,16 @@
 -- `bind_lookup::child_count` meets its contract.
-use mathlib.Core.Path.{ap, sym, ◌∙◌}
-use borrow.Author.Tests.{eq-eqb, ne_eqb}
-use Rattle.bind_lookup.specs.ChildLookup.{count_of}
-use Rattle.fields.specs.declared.Checked.{Checked}
-use Rattle.content.specs.ContentCheck.{deepest}
-use Rattle.content.proofs.Laws.ChildrenWalk.{bind-fault}
+use mathlib.Core.Path.{ap, ◌∙◌}
+use Rattle.fields.proofs.Laws.Answer.{passed_on}
+use Rattle.bind_lookup.specs.ChildLookup.{count_answer}
+use Rattle.bind_lookup.proofs.Laws.Judged.{count-refused, count-accepted}
 use Rattle.bind_lookup.proofs.child_count.Goals as goal
 
-pub returns-then-answer-ne0 : goal.returns-then-answer-ne0
-unfolding count_of
-returns-then-answer-ne0 c =
-    let s = c.args.content.now in
-    let e = ap (λ (x : Checked). x.number) c.bind_check-answer.ensures ∙ bind-fault deepest s in
-    simp (ne_eqb _ 0 (λ z. c.if-answer-ne0.true (e ∙ z))) cc
+pub returns-in_err-clean : goal.returns-in_err-clean
+returns-in_err-clean c =
+    let f = c.in_err-clean.field-0.0 in
+    ap count_answer (passed_on f c.from_residual.result c.from_residual.ensures.1) ∙ count-refused c.args.content.now f c.in_err-clean.ensures
 
 pub returns : goal.returns
-unfolding count_of
 returns c =
-    let s = c.args.content.now in
-    let e = sym (ap (λ (x : Checked). x.number) c.bind_check-answer.ensures ∙ bind-fault deepest s) ∙ c.if-answer-ne0.false in
-    simp (eq-eqb _ 0 e) cc
+    let m = c.in_ok-clean.clean in
+    (λ i. record { number = 0; count = c.child_count.ensures i; clean = m }) ∙ count-accepted c.args.content.now m c.in_ok-clean.ensures

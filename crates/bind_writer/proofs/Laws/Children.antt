@@ -86,23 +86,19 @@ module _ (ts : List (Bor (List ℕ))) (i : ℕ) (h : i < length ts) (cs : List C
   type_at : (get_or cs i no_child).type_text ≡ (get_or ts i none).now
   type_at = given-at (λ c. c.type_text) cs ts p i no_child refl
 
-  -- by types and names: r and n say whether the texts at i pass
+  -- by types and names
   module _ (ns : List (Bor (List ℕ))) (q : names_of cs ≡ map (λ x. x.now) ns) where
     name-at : (get_or cs i no_child).name ≡ (get_or ns i none).now
     name-at = given-at (λ c. c.name) cs ns q i no_child refl
 
-    texts-at : (r n : Bool) → type_ok (get_or ts i none).now ≡ r → is_text (get_or ns i none).now ≡ n → texts_ok (get_or cs i no_child) ≡ (r && n)
-    texts-at r n a b = ap₂ (λ (x y : Bool). x && y) (ap type_ok type_at ∙ a) (ap is_text name-at ∙ b)
+    texts-at : texts_ok (get_or cs i no_child) ≡ (type_ok (get_or ts i none).now && is_text (get_or ns i none).now)
+    texts-at = ap₂ (λ (x y : Bool). x && y) (ap type_ok type_at) (ap is_text name-at)
 
-    pub texts-next : type_ok (get_or ts i none).now ≡ true → is_text (get_or ns i none).now ≡ true
-        → all_of texts_ok (drop i cs) ≡ all_of texts_ok (drop (i + 1) cs)
-    texts-next a b = all-step texts_ok cs i no_child below (texts-at true true a b)
+    pub texts-next : (type_ok (get_or ts i none).now && is_text (get_or ns i none).now) ≡ true → all_of texts_ok (drop i cs) ≡ all_of texts_ok (drop (i + 1) cs)
+    texts-next a = all-step texts_ok cs i no_child below (texts-at ∙ a)
 
-    pub texts-type : type_ok (get_or ts i none).now ≡ false → all_of texts_ok (drop i cs) ≡ false
-    texts-type a = all-stop texts_ok cs i no_child below (texts-at false (is_text (get_or ns i none).now) a refl)
-
-    pub texts-name : type_ok (get_or ts i none).now ≡ true → is_text (get_or ns i none).now ≡ false → all_of texts_ok (drop i cs) ≡ false
-    texts-name a b = all-stop texts_ok cs i no_child below (texts-at true false a b)
+    pub texts-stop : (type_ok (get_or ts i none).now && is_text (get_or ns i none).now) ≡ false → all_of texts_ok (drop i cs) ≡ false
+    texts-stop a = all-stop texts_ok cs i no_child below (texts-at ∙ a)
 
   -- by types and contents
   module _ (ds : List (Bor (List ℕ))) (q : contents_of cs ≡ map (λ x. x.now) ds) where

@@ -1,5 +1,7 @@
 -- The encoding of children by their three lists: its length, and the stores that write it.
-use Prim.Native.Nat.{ℕ, ◌+◌, ◌*◌, ◌%◌, ◌≤◌, min}
+use Prim.Native.Nat.{ℕ, ◌+◌, ◌*◌, ◌%◌, ◌≤◌, ◌<◌}
+use Rattle.std.specs.Prelude.{Option, Some, None, MatchOption, IsSome}
+use Rattle.std.proofs.lemmas.Option.{MatchOption-at_some}
 use mathlib.Core.Path.{◌≡◌, refl, sym, ap, ap₂, ◌∙◌}
 use mathlib.Core.List.{List, [], ◌∷◌, ◌++◌, map, append_assoc}
 use native.Mathlib.Omega.{arith}
@@ -26,6 +28,15 @@ names-flat cs = sym (flat_map ended (λ c. c.name) cs)
 data-flat : (cs : List Child) → flat child_data cs ≡ flat padded (contents_of cs)
 unfolding child_data
 data-flat cs = sym (flat_map padded (λ c. c.content) cs)
+
+-- the length of the names as the code counts it: none where it is above the limit
+module _ (r : Option ℕ) (long : ℕ) (h : MatchOption r (65535 < long) (λ n. (n ≡ long) × (n ≤ 65535))) where
+  pub names-counted : (n : ℕ) → r ≡ Some n → n ≡ long
+  names-counted n e = (MatchOption-at_some (65535 < long) (λ k. (k ≡ long) × (k ≤ 65535)) n e h).0
+
+pub names-known : (r : Option ℕ) (long : ℕ) → MatchOption r (65535 < long) (λ n. (n ≡ long) × (n ≤ 65535)) → long ≤ 65535 → IsSome r
+names-known (Some n) long h k = refl
+names-known None long h k = absurd (omega (arith, h, k))
 
 pub length-ended : (x : List ℕ) → length (ended x) ≡ length x + 1
 length-ended x = length-append x (0 ∷ [])
@@ -119,10 +130,9 @@ module _ (ts ns ds : List (List ℕ)) (h : SameCount ts ns ds) where
   pub length-table : length (name_table (children ts ns ds)) ≡ length (flat ended ns) + length (flat ended ns) % 2
   length-table = ap length table-given ∙ length-padded (flat ended ns)
 
-  -- the length of the encoding, by the names' length m, counted up to a limit that the table keeps
-  pub length_front : (m limit : ℕ) → m ≡ min (length (flat ended ns)) limit → length (name_table (children ts ns ds)) ≤ limit
-      → length (encode_children (children ts ns ds)) ≡ 4 + 20 * length ts + m + m % 2 + length (flat padded ds)
-  length_front m limit e k = omega (arith, e, k, length-given, length-table, length-padded (flat ended ns))
+  -- the length of the encoding, by the names' length m
+  pub length_front : (m : ℕ) → m ≡ length (flat ended ns) → length (encode_children (children ts ns ds)) ≡ 4 + 20 * length ts + m + m % 2 + length (flat padded ds)
+  length_front m e = omega (arith, e, length-given, length-padded (flat ended ns))
 
   -- the four parts, each stored where the one before it ends
   pub encode-stores : (out : List ℕ) (end : ℕ) → end ≡ 2 + 20 * length ts + (2 + length (padded (flat ended ns)))

@@ -1,7 +1,7 @@
 -- The check of the three lists: what it says where it passes, and that it fails otherwise.
 use Prim.Native.Nat.{ℕ}
 use mathlib.Core.Path.{◌≡◌}
-use mathlib.Core.Bool.{true, false}
+use mathlib.Core.Bool.{true, false, ◌&&◌}
 use mathlib.Core.List.{List}
 use lib.Dec.{eqb}
 use lib.ListN.{length}
@@ -39,6 +39,12 @@ module _ (ts ns ds : List (List ℕ)) where
       and-join _ _ (eq-eqb (length ns) (length ts) l.count.names)
       (and-join _ _ (eq-eqb (length ds) (length ts) l.count.contents)
       (and-join _ _ l.few (and-join _ _ l.texts l.table)))
+
+  -- where the other tests pass, the table's decides
+  pub lists-by-table : SameCount ts ns ds → count_fits ts ≡ true → all_of texts_ok (children ts ns ds) ≡ true → lists_ok ts ns ds ≡ table_fits (children ts ns ds)
+  unfolding lists_ok
+  lists-by-table l f t =
+      λ i. eq-eqb (length ns) (length ts) l.names i && (eq-eqb (length ds) (length ts) l.contents i && (f i && (t i && table_fits (children ts ns ds))))
 
   pub lists-refused : (ListsPassed ts ns ds → ⊥) → lists_ok ts ns ds ≡ false
   lists-refused n = is_false (lists_ok ts ns ds) (λ e. n (lists-passed e))

@@ -8,32 +8,32 @@ use Rattle.bind_writer.proofs.Laws.Slices.{none, slices-all, length-slices-next,
 use Rattle.bind_layout.proofs.Laws.Children.{length-padded}
 use Rattle.bind_writer.proofs.data_len.Goals as goal
 
-pub loop-i-init : goal.loop-i-init
-loop-i-init c = let e = ap length (flat-none padded (map (λ x. x.now) c.args.contents.now)) in (omega arith, omega arith)
+pub loop-content-init : goal.loop-content-init
+loop-content-init c = let e = ap length (flat-none padded (map (λ x. x.now) c.args.contents.now)) in (omega arith, omega arith)
 
 pub returns-then-left-n : goal.returns-then-left-n
 returns-then-left-n c =
-    let l = c.loop-i in
+    let l = c.loop-content in
     let ps = c.args.contents.now in
-    let m = length-slices-le padded ps l.i (omega arith) in
-    omega (arith, length-padded (get_or ps l.i none).now)
+    let m = length-slices-le padded ps l.content-index (omega arith) in
+    omega (arith, length-padded (get_or ps l.content-index none).now)
 
 pub returns-then-left-n-2 : goal.returns-then-left-n-2
 returns-then-left-n-2 c =
-    let l = c.loop-i in
+    let l = c.loop-content in
     let ps = c.args.contents.now in
-    let m = length-slices-le padded ps l.i (omega arith) in
-    omega (arith, length-padded (get_or ps l.i none).now)
+    let m = length-slices-le padded ps l.content-index (omega arith) in
+    omega (arith, length-padded (get_or ps l.content-index none).now)
 
-pub loop-i-preserved : goal.loop-i-preserved
-loop-i-preserved c =
-    let l = c.loop-i in
+pub loop-content-preserved : goal.loop-content-preserved
+loop-content-preserved c =
+    let l = c.loop-content in
     let ps = c.args.contents.now in
-    let s = length-slices-next padded ps l.i (omega arith) in
-    (omega arith, omega (arith, length-padded (get_or ps l.i none).now))
+    let s = length-slices-next padded ps l.content-index (omega arith) in
+    (omega arith, omega (arith, length-padded (get_or ps l.content-index none).now))
 
 pub returns : goal.returns
 returns c =
     let ps = c.args.contents.now in
-    let s = ap length (slices-all padded ps c.loop-i.i (omega arith)) in
+    let s = ap length (slices-all padded ps c.loop-content.content-index (omega arith)) in
     omega arith

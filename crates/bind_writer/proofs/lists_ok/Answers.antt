@@ -1,71 +1,67 @@
--- `bind_writer::lists_ok` meets its contract: each test that fails contradicts what lists that pass say.
-use mathlib.Core.Path.{ap, sym, ◌∙◌}
-use mathlib.Core.Bool.{false≢true}
-use mathlib.Core.List.{map}
-use native.Mathlib.Omega.{arith}
+-- `bind_writer::lists_ok` meets its contract: where the counts and the texts pass, the table decides; else what fails contradicts what lists that
+-- pass say.
+use Prim.Native.Nat.{ℕ}
+use mathlib.Core.Path.{◌≡◌, ap, sym, ◌∙◌}
+use mathlib.Core.Bool.{true, false≢true, ◌&&◌}
+use mathlib.Core.List.{List, map}
+use denote.Ref.{Bor}
+use lib.Dec.{eqb, leb}
 use lib.ListN.{length, length-map}
-use borrow.Author.Tests.{leb-true, le-leb}
-use Rattle.bind_layout.specs.Children.{name_table}
-use Rattle.bind_writer.specs.ChildLists.{children}
+use borrow.Author.Tests.{eqb-true, eq-eqb}
+use Rattle.fields.proofs.Laws.Checks.{and_split}
+use Rattle.bind_writer.specs.ChildLists.{children, SameCount}
+use Rattle.bind_writer.specs.BindWriter.{count_fits}
 use Rattle.bind_writer.proofs.Laws.Slices.{same_count, count_same}
 use Rattle.bind_writer.proofs.Laws.Children.{lists_of}
-use Rattle.bind_writer.proofs.Laws.Layout.{lists-pass, lists-refused}
-use Rattle.bind_writer.proofs.Laws.Encoding.{length-table, names-given}
+use Rattle.bind_writer.proofs.Laws.Layout.{lists-by-table, lists-refused}
+use Rattle.bind_writer.proofs.Laws.Encoding.{table-given}
 use Rattle.bind_writer.proofs.lists_ok.Goals as goal
+use Rattle.bind_writer.proofs.lists_ok.Goals.{then-counts_ok, else-counts_ok}
 
-pub returns-then-names-types : goal.returns-then-names-types
-returns-then-names-types c =
-    let a = c.args in
-    let ts = a.types.now in
-    let ns = a.names.now in
-    let ds = a.contents.now in
-    sym (lists-refused (map (λ x. x.now) ts) (map (λ x. x.now) ns) (map (λ x. x.now) ds) (λ l. c.if-names-types.true (count_same ts ns ds l.count).0))
+module _ (ts ns ds : List (Bor (List ℕ))) where
+  abbrev Counts : Type 0
+  Counts = (eqb (length ns) (length ts) && (eqb (length ds) (length ts) && leb (length ts) 65535)) ≡ true
 
-pub returns-then-contents-types : goal.returns-then-contents-types
-returns-then-contents-types c =
-    let a = c.args in
-    let ts = a.types.now in
-    let ns = a.names.now in
-    let ds = a.contents.now in
-    sym (lists-refused (map (λ x. x.now) ts) (map (λ x. x.now) ns) (map (λ x. x.now) ds) (λ l. c.if-contents-types.true (count_same ts ns ds l.count).1))
+  few : leb (length ts) 65535 ≡ count_fits (map (λ x. x.now) ts)
+  few = ap (λ (n : ℕ). leb n 65535) (sym (length-map ts (λ x. x.now)))
 
-pub returns-then-types-gt-SIZE_LIMIT : goal.returns-then-types-gt-SIZE_LIMIT
-returns-then-types-gt-SIZE_LIMIT c =
-    let a = c.args in
-    let ts = a.types.now in
-    sym (lists-refused (map (λ x. x.now) ts) (map (λ x. x.now) a.names.now) (map (λ x. x.now) a.contents.now) (λ l. omega (arith, leb-true (length (map (λ x. x.now) ts)) _ l.few, length-map ts (λ x. x.now))))
+  counted : Counts → SameCount (map (λ x. x.now) ts) (map (λ x. x.now) ns) (map (λ x. x.now) ds) × (count_fits (map (λ x. x.now) ts) ≡ true)
+  counted h =
+      let a = and_split (eqb (length ns) (length ts)) _ h in
+      let b = and_split (eqb (length ds) (length ts)) _ a.1 in
+      (same_count ts ns ds (eqb-true (length ns) (length ts) a.0) (eqb-true (length ds) (length ts) b.0), sym few ∙ b.1)
 
-pub returns-then-not-texts_ok : goal.returns-then-not-texts_ok
-returns-then-not-texts_ok c =
+  counts : SameCount (map (λ x. x.now) ts) (map (λ x. x.now) ns) (map (λ x. x.now) ds) → count_fits (map (λ x. x.now) ts) ≡ true → Counts
+  counts h f =
+      let e = count_same ts ns ds h in
+      λ i. eq-eqb (length ns) (length ts) e.0 i && (eq-eqb (length ds) (length ts) e.1 i && (few ∙ f) i)
+
+pub returns-then-texts_ok : goal.returns-then-texts_ok
+returns-then-texts_ok c =
     let a = c.args in
     let ts = map (λ x. x.now) a.types.now in
     let ns = map (λ x. x.now) a.names.now in
     let ds = map (λ x. x.now) a.contents.now in
-    let g = c.texts_ok in
-    sym (lists-refused ts ns ds (λ l.
-    let e = lists_of ts ns ds l.count in
-    false≢true (sym (c.if-not-texts_ok.true) ∙ g.ensures (children ts ns ds) e.0 e.1 ∙ l.texts)))
+    elim c.if-counts_ok.branch [
+      | then-counts_ok w ↦
+          let k = counted a.types.now a.names.now a.contents.now (sym c.counts_ok.ensures ∙ w.if-counts_ok.true) in
+          let e = lists_of ts ns ds k.0 in
+          let texts = sym (w.texts_ok.ensures (children ts ns ds) e.0 e.1) ∙ sym w.value-is ∙ c.if-texts_ok.true in
+          c.table_ok.ensures ∙ ap (λ t. leb (length t) 65535) (sym (table-given ts ns ds k.0)) ∙ sym (lists-by-table ts ns ds k.0 k.1 texts)
+      | else-counts_ok w ↦ absurd (false≢true (sym w.if-counts_ok.false ∙ sym w.value-is ∙ c.if-texts_ok.true))
+    ]
 
-pub returns-then-n-gt-SIZE_LIMIT : goal.returns-then-n-gt-SIZE_LIMIT
-returns-then-n-gt-SIZE_LIMIT c =
+pub returns-else-texts_ok : goal.returns-else-texts_ok
+returns-else-texts_ok c =
     let a = c.args in
     let ts = map (λ x. x.now) a.types.now in
     let ns = map (λ x. x.now) a.names.now in
     let ds = map (λ x. x.now) a.contents.now in
-    sym (lists-refused ts ns ds (λ l. omega (arith, c.names_len-n.ensures, leb-true (length (name_table (children ts ns ds))) _ l.table, length-table ts ns ds l.count, ap length (names-given ts ns ds l.count))))
-
-pub returns : goal.returns
-returns c =
-    let a = c.args in
-    let ts = map (λ x. x.now) a.types.now in
-    let ns = map (λ x. x.now) a.names.now in
-    let ds = map (λ x. x.now) a.contents.now in
-    let g = c.texts_ok in
-    let h = same_count a.types.now a.names.now a.contents.now (omega arith) (omega arith) in
-    let e = lists_of ts ns ds h in
-    sym (lists-pass ts ns ds (record {
-      count = h;
-      few = le-leb (length ts) _ (omega (arith, length-map a.types.now (λ x. x.now)));
-      texts = sym (g.ensures (children ts ns ds) e.0 e.1) ∙ c.if-not-texts_ok.false;
-      table = le-leb (length (name_table (children ts ns ds))) _ (omega (arith, c.names_len-n.ensures, length-table ts ns ds h, ap length (names-given ts ns ds h)));
-    }))
+    c.if-texts_ok.false
+    ∙ sym (lists-refused ts ns ds (λ l.
+    elim c.if-counts_ok.branch [
+      | then-counts_ok w ↦
+          let e = lists_of ts ns ds l.count in
+          false≢true (sym c.if-texts_ok.false ∙ w.value-is ∙ w.texts_ok.ensures (children ts ns ds) e.0 e.1 ∙ l.texts)
+      | else-counts_ok w ↦ false≢true (sym w.if-counts_ok.false ∙ c.counts_ok.ensures ∙ counts a.types.now a.names.now a.contents.now l.count l.few)
+    ]))

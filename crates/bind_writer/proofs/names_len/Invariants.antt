@@ -1,5 +1,5 @@
 -- `bind_writer::names_len` meets its contract. The loop's invariant: `sum` is the length of the first `i` names, and at most 65,535.
-use Prim.Native.Nat.{◌-◌, ◌≤◌}
+use Prim.Native.Nat.{◌≤◌}
 use mathlib.Core.Path.{◌≡◌}
 use mathlib.Core.List.{map}
 use lib.ListN.{length, take}
@@ -7,8 +7,5 @@ use Rattle.fields.specs.Lists.{flat}
 use Rattle.bind_layout.specs.Children.{ended}
 use Rattle.bind_writer.proofs.names_len.Given as goal
 
-abbrev pub invariant-loop-i : goal.invariant-loop-i
-invariant-loop-i l = (l.i ≤ length l.names) × (l.sum ≡ length (flat ended (take l.i (map (λ x. x.now) l.names)))) × (l.sum ≤ 65535)
-
-abbrev pub decreases-loop-i : goal.decreases-loop-i
-decreases-loop-i l = length l.names - l.i
+abbrev pub invariant-loop-name : goal.invariant-loop-name
+invariant-loop-name l = (l.name-index ≤ length l.names) × (l.sum ≡ length (flat ended (take l.name-index (map (λ x. x.now) l.names)))) × (l.sum ≤ 65535)

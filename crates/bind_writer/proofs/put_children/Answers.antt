@@ -71,7 +71,7 @@ returns c =
     let end : table.result ≡ 2 + 20 * length ts + (2 + length (padded (flat ended ns))) = omega (arith, table.ensures.place) in record {
       count = omega (arith, e, body.place, end);
       bytes = body.bytes cs p.0 p.2
-          ∙ ap (λ (l : List ℕ). sets l table.result (flat clean_data cs)) (table.ensures.bytes ∙ ap (λ (l : List ℕ). sets l (2 + 20 * length a.types.now) x) (heads ∙ ap (λ (l : List ℕ). sets l 2 (flat plain_header cs)) c.put16.ensures))
+          ∙ ap (λ (l : List ℕ). sets l table.result (flat clean_data cs)) (table.ensures.bytes ∙ ap (λ (l : List ℕ). sets l (2 + 20 * length a.types.now) x) (heads ∙ ap (λ (l : List ℕ). sets l 2 (flat plain_header cs)) c.put.ensures))
           ∙ ap (λ (m : ℕ). sets (sets (sets (sets a.out.now 0 (be_bytes 2 m)) 2 (flat plain_header cs)) (2 + 20 * m) x) table.result (flat clean_data cs)) (sym n)
           ∙ encode-stores ts ns ds g.count a.out.now table.result end;
     }

@@ -1,5 +1,5 @@
 -- `bind_writer::put_contents` meets its contract. The loop's invariant: the first `i` contents are written, up to place `to`.
-use Prim.Native.Nat.{◌+◌, ◌-◌, ◌≤◌}
+use Prim.Native.Nat.{◌+◌, ◌≤◌}
 use mathlib.Core.Path.{◌≡◌}
 use mathlib.Core.List.{map}
 use lib.ListN.{length, take}
@@ -15,6 +15,3 @@ invariant-loop-i l = (l.i ≤ length l.contents)
     × (length l.out ≡ length l.initial.out)
     × (l.to ≡ l.at + length (flat padded (take l.i (map (λ x. x.now) l.contents))))
     × WithContents (map (λ x. x.now) l.types) (map (λ x. x.now) l.contents) (λ cs. l.out ≡ sets l.initial.out l.at (flat clean_data (take l.i cs)))
-
-abbrev pub decreases-loop-i : goal.decreases-loop-i
-decreases-loop-i l = length l.contents - l.i

@@ -1,5 +1,5 @@
 -- `bind_writer::put_headers` meets its contract. The loop's invariant: the headers of the first `i` children are written.
-use Prim.Native.Nat.{◌-◌, ◌≤◌}
+use Prim.Native.Nat.{◌≤◌}
 use mathlib.Core.Path.{◌≡◌}
 use mathlib.Core.List.{map}
 use lib.ListN.{length, take}
@@ -13,6 +13,3 @@ abbrev pub invariant-loop-i : goal.invariant-loop-i
 invariant-loop-i l = (l.i ≤ length l.types)
     × (length l.out ≡ length l.initial.out)
     × WithContents (map (λ x. x.now) l.types) (map (λ x. x.now) l.contents) (λ cs. l.out ≡ sets l.initial.out 2 (flat plain_header (take l.i cs)))
-
-abbrev pub decreases-loop-i : goal.decreases-loop-i
-decreases-loop-i l = length l.types - l.i

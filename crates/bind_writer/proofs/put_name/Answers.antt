@@ -16,7 +16,7 @@ returns c =
     let a = c.args in
     let n = a.name.now in record {
       place = omega (arith, length-ended n);
-      bytes = c.put8.ensures
+      bytes = c.put-2.ensures
           ∙ ap (λ (l : List ℕ). sets l (a.at + length n) (0 ∷ [])) c.put.ensures
           ∙ sym (sets-append a.out.now a.at n (0 ∷ []));
     }

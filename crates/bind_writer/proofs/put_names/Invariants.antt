@@ -1,5 +1,5 @@
 -- `bind_writer::put_names` meets its contract. The loop's invariant: the first `i` names are written, up to place `to`.
-use Prim.Native.Nat.{◌+◌, ◌-◌, ◌≤◌}
+use Prim.Native.Nat.{◌+◌, ◌≤◌}
 use mathlib.Core.Path.{◌≡◌}
 use mathlib.Core.List.{map}
 use lib.ListN.{length, take}
@@ -8,11 +8,8 @@ use Rattle.fields.specs.Lists.{flat}
 use Rattle.bind_layout.specs.Children.{ended}
 use Rattle.bind_writer.proofs.put_names.Given as goal
 
-abbrev pub invariant-loop-i : goal.invariant-loop-i
-invariant-loop-i l = (l.i ≤ length l.names)
+abbrev pub invariant-loop-name : goal.invariant-loop-name
+invariant-loop-name l = (l.name-index ≤ length l.names)
     × (length l.out ≡ length l.initial.out)
-    × (l.to ≡ l.at + length (flat ended (take l.i (map (λ x. x.now) l.names))))
-    × (l.out ≡ sets l.initial.out l.at (flat ended (take l.i (map (λ x. x.now) l.names))))
-
-abbrev pub decreases-loop-i : goal.decreases-loop-i
-decreases-loop-i l = length l.names - l.i
+    × (l.to ≡ l.at + length (flat ended (take l.name-index (map (λ x. x.now) l.names))))
+    × (l.out ≡ sets l.initial.out l.at (flat ended (take l.name-index (map (λ x. x.now) l.names))))

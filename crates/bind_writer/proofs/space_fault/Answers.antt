@@ -15,16 +15,15 @@ use Rattle.bind_layout.specs.Children.{padded, name_table, ended}
 use Rattle.bind_writer.specs.ChildLists.{children}
 use Rattle.bind_writer.proofs.Laws.Layout.{lists-passed}
 use Rattle.bind_writer.specs.BindWriter.{lists_ok, bind_bytes}
-use Rattle.bind_writer.proofs.Laws.Encoding.{length_front, length-cleaned}
+use Rattle.bind_writer.proofs.Laws.Encoding.{names-counted, names-known, length-table, length_front, length-cleaned}
 use Rattle.bind_writer.proofs.space_fault.Goals as goal
 
 -- the length that the room is compared with, by the names' length n
-encoded : (ts ns ds : List (List ℕ)) {n : ℕ} → lists_ok ts ns ds ≡ true → n ≡ min (length (flat ended ns)) 65536
+encoded : (ts ns ds : List (List ℕ)) {n : ℕ} → lists_ok ts ns ds ≡ true → n ≡ length (flat ended ns)
     → length (bind_bytes ts ns ds) ≡ 4 + 20 * length ts + n + n % 2 + length (flat padded ds)
 encoded ts ns ds h e =
     let g = lists-passed ts ns ds h in
-    let t = leb-true (length (name_table (children ts ns ds))) _ g.table in
-    length-cleaned (children ts ns ds) ∙ length_front ts ns ds g.count _ _ e (omega (arith, t))
+    length-cleaned (children ts ns ds) ∙ length_front ts ns ds g.count _ e
 
 -- what stands before the data fits, and r is as much of the data as needs be known
 split : (long front behind room r : ℕ) → long ≡ front + behind → front ≤ room → r ≡ min behind (room - front + 1)
@@ -34,14 +33,24 @@ split long front behind room r e h m =
     (λ t. let k = leb-true behind (room - front) t in room-enough r (room - front) (omega (arith, k)) ∙ sym (room-enough long room (omega (arith, k))))
     (λ t. let k = leb-false behind (room - front) t in room-short r (room - front) (omega (arith, k)) ∙ sym (room-short long room (omega (arith, k))))
 
+pub unwrap-n-requires : goal.unwrap-n-requires
+unwrap-n-requires c =
+    let a = c.args in
+    let ts = map (λ x. x.now) a.types.now in
+    let ns = map (λ x. x.now) a.names.now in
+    let ds = map (λ x. x.now) a.contents.now in
+    let g = lists-passed ts ns ds c.requires in
+    let t = leb-true (length (name_table (children ts ns ds))) _ g.table in
+    names-known _ _ c.names_len.ensures (omega (arith, t, length-table ts ns ds g.count))
+
 pub returns-then-room-front : goal.returns-then-room-front
 returns-then-room-front c =
     let a = c.args in
-    let e = encoded (map (λ x. x.now) a.types.now) _ (map (λ x. x.now) a.contents.now) c.requires c.names_len-n.ensures in
+    let e = encoded (map (λ x. x.now) a.types.now) _ (map (λ x. x.now) a.contents.now) c.requires (names-counted _ _ c.names_len.ensures _ c.unwrap-n.ensures) in
     c.room_fault.ensures ∙ room-short _ _ (omega arith) ∙ sym (room-short _ _ (omega (arith, e, length-map a.types.now (λ x. x.now))))
 
 pub returns : goal.returns
 returns c =
     let a = c.args in
-    let e = encoded (map (λ x. x.now) a.types.now) _ (map (λ x. x.now) a.contents.now) c.requires c.names_len-n.ensures in
+    let e = encoded (map (λ x. x.now) a.types.now) _ (map (λ x. x.now) a.contents.now) c.requires (names-counted _ _ c.names_len.ensures _ c.unwrap-n.ensures) in
     c.room_fault-2.ensures ∙ split _ _ _ a.room _ (e ∙ omega (arith, length-map a.types.now (λ x. x.now))) (omega arith) c.data_len.ensures

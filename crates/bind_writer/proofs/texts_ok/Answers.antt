@@ -3,35 +3,26 @@ use native.Mathlib.Omega.{arith}
 use Rattle.fields.proofs.Laws.Lists.{all_end}
 use Rattle.bind_writer.specs.BindWriter.{texts_ok}
 use Rattle.bind_writer.proofs.Laws.Slices.{length-given}
-use Rattle.bind_writer.proofs.Laws.Children.{texts-next, texts-type, texts-name}
+use Rattle.bind_writer.proofs.Laws.Children.{texts-next, texts-stop}
 use Rattle.bind_writer.proofs.texts_ok.Goals as goal
 
 pub loop-i-init : goal.loop-i-init
 loop-i-init c = (omega arith, λ cs p q. refl)
 
-pub returns-then-not-type_ok : goal.returns-then-not-type_ok
-returns-then-not-type_ok c =
+pub returns-then-not-text_ok : goal.returns-then-not-text_ok
+returns-then-not-text_ok c =
     let a = c.args in
     let l = c.loop-i in
-    let g = c.type_ok in
-    λ cs p q. sym (l.invariant.1 cs p q ∙ texts-type a.types.now l.i (omega arith) cs p a.names.now q (sym g.ensures ∙ c.if-not-type_ok.true))
-
-pub returns-then-not-is_text : goal.returns-then-not-is_text
-returns-then-not-is_text c =
-    let a = c.args in
-    let l = c.loop-i in
-    let g = c.type_ok in
-    let n = c.is_text in
-    λ cs p q. sym (l.invariant.1 cs p q ∙ texts-name a.types.now l.i (omega arith) cs p a.names.now q (sym g.ensures ∙ c.if-not-type_ok.false) (sym n.ensures ∙ c.if-not-is_text.true))
+    let fails = sym c.text_ok.ensures ∙ c.if-not-text_ok.true in
+    λ cs p q. sym (l.invariant.1 cs p q ∙ texts-stop a.types.now l.i (omega arith) cs p a.names.now q fails)
 
 pub loop-i-preserved : goal.loop-i-preserved
 loop-i-preserved c =
     let a = c.args in
     let l = c.loop-i in
-    let g = c.type_ok in
-    let n = c.is_text in (
+    let passes = sym c.text_ok.ensures ∙ c.if-not-text_ok.false in (
       omega arith,
-      λ cs p q. l.invariant.1 cs p q ∙ texts-next a.types.now l.i (omega arith) cs p a.names.now q (sym g.ensures ∙ c.if-not-type_ok.false) (sym n.ensures ∙ c.if-not-is_text.false),
+      λ cs p q. l.invariant.1 cs p q ∙ texts-next a.types.now l.i (omega arith) cs p a.names.now q passes,
     )
 
 pub returns : goal.returns

@@ -1,5 +1,5 @@
 -- `bind_writer::texts_ok` meets its contract. The loop's invariant: the test of all children is that of those from place `i` on.
-use Prim.Native.Nat.{◌-◌, ◌≤◌}
+use Prim.Native.Nat.{◌≤◌}
 use mathlib.Core.Path.{◌≡◌}
 use mathlib.Core.List.{map}
 use lib.ListN.{length, drop}
@@ -10,6 +10,3 @@ use Rattle.bind_writer.proofs.texts_ok.Given as goal
 
 abbrev pub invariant-loop-i : goal.invariant-loop-i
 invariant-loop-i l = (l.i ≤ length l.types) × WithNames (map (λ x. x.now) l.types) (map (λ x. x.now) l.names) (λ cs. all_of texts_ok cs ≡ all_of texts_ok (drop l.i cs))
-
-abbrev pub decreases-loop-i : goal.decreases-loop-i
-decreases-loop-i l = length l.types - l.i

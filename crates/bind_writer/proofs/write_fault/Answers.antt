@@ -3,6 +3,9 @@ use mathlib.Core.Path.{◌≡◌, sym, ◌∙◌}
 use mathlib.Core.Bool.{true}
 use mathlib.Core.List.{List, map}
 use Prim.Native.Nat.{ℕ}
+use Rattle.std.proofs.Common.{rules}
+use Rattle.fields.specs.Fault.{fault_number, number_of}
+use Rattle.fields.proofs.Laws.Answer.{fault_some}
 use Rattle.content.specs.ContentTheorems.{first_fault}
 use Rattle.bind_writer.specs.ChildLists.{children, WithContents}
 use Rattle.bind_writer.specs.BindWriter.{lists_ok, child_fault}
@@ -23,8 +26,8 @@ returns-then-not-lists_ok c =
     let g = c.lists_ok in
     sym (by-lists (map (λ x. x.now) a.types.now) (map (λ x. x.now) a.names.now) (map (λ x. x.now) a.contents.now) a.room (sym g.ensures ∙ c.if-not-lists_ok.true))
 
-pub first_fault-fault-requires : goal.first_fault-fault-requires
-first_fault-fault-requires c =
+pub first_fault-requires : goal.first_fault-requires
+first_fault-requires c =
     let a = c.args in
     let ts = a.types.now in
     let ns = a.names.now in
@@ -32,15 +35,17 @@ first_fault-fault-requires c =
     let g = c.lists_ok in
     (count_same ts ns ds (lists-passed (map (λ x. x.now) ts) (map (λ x. x.now) ns) (map (λ x. x.now) ds) (sym g.ensures ∙ c.if-not-lists_ok.false)).count).1
 
-pub returns-then-fault-ne0 : goal.returns-then-fault-ne0
-returns-then-fault-ne0 c =
+pub returns-in_err-first_fault : goal.returns-in_err-first_fault
+returns-in_err-first_fault c =
     let a = c.args in
     let ts = map (λ x. x.now) a.types.now in
     let ns = map (λ x. x.now) a.names.now in
     let ds = map (λ x. x.now) a.contents.now in
     let h : lists_ok ts ns ds ≡ true = sym c.lists_ok.ensures ∙ c.if-not-lists_ok.false in
-    let f = children-fault ts ns ds h c.first_fault-fault.ensures in
-    f ∙ sym (by-children ts ns ds a.room h (λ z. c.if-fault-ne0.true (f ∙ z)))
+    let f = c.in_err-first_fault.field-0.0 in
+    let r : number_of c.from_residual.result ≡ fault_number f = search rules in
+    let e = children-fault ts ns ds h c.in_err-first_fault.ensures in
+    r ∙ e ∙ sym (by-children ts ns ds a.room h (λ z. fault_some f (e ∙ z)))
 
 pub space_fault-requires : goal.space_fault-requires
 space_fault-requires c =
@@ -54,5 +59,4 @@ returns c =
     let ns = map (λ x. x.now) a.names.now in
     let ds = map (λ x. x.now) a.contents.now in
     let h : lists_ok ts ns ds ≡ true = sym c.lists_ok.ensures ∙ c.if-not-lists_ok.false in
-    let f = children-fault ts ns ds h c.first_fault-fault.ensures in
-    c.space_fault.ensures ∙ sym (by-room ts ns ds a.room h (sym f ∙ c.if-fault-ne0.false))
+    c.space_fault.ensures ∙ sym (by-room ts ns ds a.room h (sym (children-fault ts ns ds h c.in_ok-first_fault.ensures)))

@@ -1,98 +1,121 @@
-use Prim.Native.Nat.{◌+◌, ◌-◌, ◌≤◌}
+use Prim.Native.Nat.{ℕ, ◌+◌, ◌-◌, ◌≤◌, ◌<◌}
 use mathlib.Core.Path.{◌≡◌, refl, sym, ap, ◌∙◌}
-use mathlib.Core.List.{[]}
+use mathlib.Core.Bool.{Bool, false}
+use mathlib.Core.List.{List, []}
+use Rattle.std.specs.Prelude.{Result}
+use Rattle.std.specs.Result.{is_err}
+use Rattle.fields.specs.declared.fault.Fault.{Fault}
 use native.Mathlib.Omega.{arith}
-use lib.ListN.{length}
+use lib.ListN.{length, take}
 use lib.Seq.{sets}
-use Rattle.fields.specs.declared.Checked.{Checked}
-use Rattle.bind_layout.specs.BindLayout.{data_ok, layout_fault}
+use Rattle.fields.specs.Answer.{checked_of}
+use Rattle.fields.proofs.Laws.Answer.{number_is, err_number, ok_number}
+use Rattle.bind_layout.specs.BindLayout.{child_count, after_block, data_ok, layout_fault, layout_checked}
 use Rattle.bind_layout.proofs.Laws.Read.{data-shorter, layout-data}
 use Rattle.content.proofs.Laws.ChildrenWalk.{layout-number}
 use Rattle.cleaning.proofs.Laws.CleaningWalk.{bind-deep, bind-unlaid, bind-start, datas-end, datas-walk, left-ok, left-shorter, child_fits, as-bind, as-other}
+use Rattle.cleaning.specs.CleanBytes.{clean_blocks, clean_bind}
 use Rattle.cleaning.proofs.+put.Goals as goal
+
+laid_out : (r : Result Bool Fault) (s : List ℕ) → checked_of r ≡ layout_checked s → is_err r ≡ false → layout_fault s ≡ 0
+laid_out r s e h = sym (number_is r e ∙ layout-number s) ∙ ok_number r h
 
 pub put_bind-returns-then-levels-eq0 : goal.put_bind-returns-then-levels-eq0
 put_bind-returns-then-levels-eq0 t c =
     let z = c.args in
     c.put.ensures ∙ ap (sets z.out.now z.at) (sym (bind-deep z.levels z.content.now c.if-levels-eq0.true))
 
-pub put_bind-returns-then-layout-ne0 : goal.put_bind-returns-then-layout-ne0
-put_bind-returns-then-layout-ne0 t c =
+pub put_bind-returns-then-is_err : goal.put_bind-returns-then-is_err
+put_bind-returns-then-is_err t c =
     let z = c.args in
-    let n = ap (λ (x : Checked). x.number) c.layout_check-layout.ensures ∙ layout-number z.content.now in
-    c.put-then-layout-ne0.ensures ∙ ap (sets z.out.now z.at) (sym (bind-unlaid z.levels z.content.now c.if-levels-eq0.false (λ q. c.if-layout-ne0.true (n ∙ q))))
+    let r = c.layout_check.result in
+    let n = number_is r c.layout_check.ensures ∙ layout-number z.content.now in
+    c.put-then-is_err.ensures ∙ ap (sets z.out.now z.at) (sym (bind-unlaid z.levels z.content.now c.if-levels-eq0.false (λ q. err_number r (sym c.is_err.ensures.value ∙ c.if-is_err.true) (n ∙ q))))
 
 pub put_bind-put_front-requires : goal.put_bind-put_front-requires
 put_bind-put_front-requires t c =
-    let n = ap (λ (x : Checked). x.number) c.layout_check-layout.ensures ∙ layout-number c.args.content.now in
-    (sym n ∙ c.if-layout-ne0.false, c.requires)
+    (laid_out c.layout_check.result c.args.content.now c.layout_check.ensures (sym c.is_err.ensures.value ∙ c.if-is_err.false), c.requires)
 
-pub put_bind-loop-left-init : goal.put_bind-loop-left-init
-put_bind-loop-left-init t c =
+pub put_bind-loop-init : goal.put_bind-loop-init
+put_bind-loop-init t c =
     let z = c.args in
     let s = z.content.now in
-    let n : layout_fault s ≡ 0 = sym (ap (λ (x : Checked). x.number) c.layout_check-layout.ensures ∙ layout-number s) ∙ c.if-layout-ne0.false in
-    let hs = c.headers-h.ensures in
-    let ds = c.data_of-d.ensures in (
-      refl,
+    let n : layout_fault s ≡ 0 = laid_out c.layout_check.result s c.layout_check.ensures (sym c.is_err.ensures.value ∙ c.if-is_err.false) in
+    let hs = c.of-left.ensures.headers in
+    let ds = c.of-left.ensures.content in
+    let k : c.child_count-end.result - 0 ≡ child_count s = omega (arith, c.child_count-end.ensures) in (
+      ap (λ (m : ℕ). sets c.put_front.new.out (z.at + (length s - length c.of-left.result.data.now)) (clean_blocks (clean_bind (z.levels - 1)) m c.of-left.result.headers.now c.of-left.result.data.now)) (omega (arith)),
       refl,
       omega (arith, ap length ds, data-shorter s n),
-      (λ i. data_ok (c.child_count-left.ensures i) (hs i) (ds i)) ∙ layout-data s n,
+      (λ i. data_ok (k i) (hs i) (ds i)) ∙ layout-data s n,
     )
 
 pub put_bind-overflow_sub-to : goal.put_bind-overflow_sub-to
-put_bind-overflow_sub-to t c = omega (arith, c.loop-left.invariant.2)
+put_bind-overflow_sub-to t c = omega (arith, c.loop.invariant.2)
 
 pub put_bind-overflow_add-to : goal.put_bind-overflow_add-to
-put_bind-overflow_add-to t c = omega (arith, c.loop-left.invariant.2, c.requires)
+put_bind-overflow_add-to t c = omega (arith, c.loop.invariant.2, c.requires)
 
 pub put_bind-put_content-requires : goal.put_bind-put_content-requires
 put_bind-put_content-requires t c =
     let l = c.args.levels in
-    let h = c.loop-left.h.now in
-    let d = c.loop-left.d.now in
-    let p = c.loop-left-test.true in
-    let f : length c.first-child.result.now ≤ length d = child_fits l [] [] [] [] h d [] c.first-child.result.now [] [] [] 0 (length d) c.loop-left.left c.size_of-size.result p c.loop-left.invariant.3 (omega arith) c.size_of-size.ensures c.first-child.ensures in
-    (omega (arith, f, c.loop-left.invariant.2), omega (arith, f, c.loop-left.invariant.1, c.put_front.auto.out, c.loop-left.invariant.2, c.requires))
+    let h = c.loop.left.headers.now in
+    let d = c.loop.left.data.now in
+    let k = c.child_count-end.result - c.loop.counter in
+    let p : 0 < k = omega (arith, c.loop-test.true) in
+    let w = sym c.size-size.ensures in
+    let x = c.content-child.ensures ∙ ap (λ (m : ℕ). take m d) w in
+    let f : length c.content-child.result.now ≤ length d = child_fits l [] [] [] [] h d [] c.content-child.result.now [] [] [] 0 (length d) k c.size-size.result p c.loop.invariant.3 (omega arith) c.size-size.ensures x in
+    (omega (arith, f, c.loop.invariant.2), omega (arith, f, c.loop.invariant.1, c.put_front.auto.out, c.loop.invariant.2, c.requires))
 
-pub put_bind-overflow_add-to-in-loop-left : goal.put_bind-overflow_add-to-in-loop-left
-put_bind-overflow_add-to-in-loop-left t c =
+pub put_bind-overflow_add-to-in-loop : goal.put_bind-overflow_add-to-in-loop
+put_bind-overflow_add-to-in-loop t c =
     let l = c.args.levels in
-    let h = c.loop-left.h.now in
-    let d = c.loop-left.d.now in
-    let p = c.loop-left-test.true in
-    let f : length c.first-child.result.now ≤ length d = child_fits l [] [] [] [] h d [] c.first-child.result.now [] [] [] 0 (length d) c.loop-left.left c.size_of-size.result p c.loop-left.invariant.3 (omega arith) c.size_of-size.ensures c.first-child.ensures in
-    omega (arith, f, c.loop-left.invariant.2, c.requires, c.well_formed)
+    let h = c.loop.left.headers.now in
+    let d = c.loop.left.data.now in
+    let k = c.child_count-end.result - c.loop.counter in
+    let p : 0 < k = omega (arith, c.loop-test.true) in
+    let w = sym c.size-size.ensures in
+    let x = c.content-child.ensures ∙ ap (λ (m : ℕ). take m d) w in
+    let f : length c.content-child.result.now ≤ length d = child_fits l [] [] [] [] h d [] c.content-child.result.now [] [] [] 0 (length d) k c.size-size.result p c.loop.invariant.3 (omega arith) c.size-size.ensures x in
+    omega (arith, f, c.loop.invariant.2, c.requires, c.well_formed)
 
-pub put_bind-loop-left-preserved : goal.put_bind-loop-left-preserved
-put_bind-loop-left-preserved t c =
+pub put_bind-loop-preserved : goal.put_bind-loop-preserved
+put_bind-loop-preserved t c =
     let z = c.args in
     let s = z.content.now in
     let l = z.levels - 1 in
-    let g = c.loop-left in
-    let h = g.h.now in
-    let d = g.d.now in
-    let p = c.loop-left-test.true in
-    let hs = c.rest-next_headers.ensures in
-    let ds = c.after_block-next_data.ensures in
+    let g = c.loop in
+    let h = g.left.headers.now in
+    let d = g.left.data.now in
+    let k = c.child_count-end.result - c.loop.counter in
+    let p : 0 < k = omega (arith, c.loop-test.true) in
+    let w = sym c.size-size.ensures in
+    let x = c.content-child.ensures ∙ ap (λ (m : ℕ). take m d) w in
+    let hs = c.after_first-left.ensures.headers in
+    let ds = c.after_first-left.ensures.content ∙ ap (λ (m : ℕ). after_block m d) w in
+    let j : k - 1 ≡ c.child_count-end.result - (g.counter + 1) = omega arith in
+    let nh = c.after_first-left.result.headers.now in
+    let nd = c.after_first-left.result.data.now in
     let fits : length d ≤ length s = omega (arith, g.invariant.2) in
-    let less = left-shorter l [] [] [] [] h d [] c.first-child.result.now [] [] c.after_block-next_data.result.now 0 (length s) g.left c.size_of-size.result p g.invariant.3 fits c.size_of-size.ensures c.first-child.ensures ds in (
-      datas-walk l _ g.out _ _ h d _ _ _ _ _ z.at (length s) g.left c.size_of-size.result p g.invariant.3 fits c.size_of-size.ensures c.first-child.ensures g.invariant.0 c.put_content.ensures c.type_of.ensures c.put-in-loop-left.ensures c.part.ensures hs ds,
-      c.put-in-loop-left.auto.out ∙ c.put_content.auto.out ∙ g.invariant.1,
+    let less = left-shorter l [] [] [] [] h d [] c.content-child.result.now [] [] c.after_first-left.result.data.now 0 (length s) k c.size-size.result p g.invariant.3 fits c.size-size.ensures x ds in (
+      datas-walk l _ g.out _ _ h d _ _ _ _ _ z.at (length s) k c.size-size.result p g.invariant.3 fits c.size-size.ensures x g.invariant.0 c.put_content.ensures c.type_text.ensures c.put-in-loop.ensures c.part.ensures hs ds
+          ∙ ap (λ (m : ℕ). sets c.put-in-loop.new.out (z.at + (length s - length nd)) (clean_blocks (clean_bind l) m nh nd)) j,
+      c.put-in-loop.auto.out ∙ c.put_content.auto.out ∙ g.invariant.1,
       omega (arith, less, g.invariant.2),
-      left-ok l [] [] [] [] h d [] c.first-child.result.now [] c.rest-next_headers.result.now c.after_block-next_data.result.now 0 (length s) g.left c.size_of-size.result p g.invariant.3 fits c.size_of-size.ensures c.first-child.ensures hs ds,
+      ap (λ (m : ℕ). data_ok m nh nd) (sym j) ∙ left-ok l [] [] [] [] h d [] c.content-child.result.now [] c.after_first-left.result.headers.now c.after_first-left.result.data.now 0 (length s) k c.size-size.result p g.invariant.3 fits c.size-size.ensures x hs ds,
     )
 
 pub put_bind-returns : goal.put_bind-returns
 put_bind-returns t c =
     let z = c.args in
     let s = z.content.now in
-    let g = c.loop-left in
-    let n : layout_fault s ≡ 0 = sym (ap (λ (x : Checked). x.number) c.layout_check-layout.ensures ∙ layout-number s) ∙ c.if-layout-ne0.false in
+    let g = c.loop in
+    let n : layout_fault s ≡ 0 = laid_out c.layout_check.result s c.layout_check.ensures (sym c.is_err.ensures.value ∙ c.if-is_err.false) in
     sym
-    (bind-start z.levels s z.out.now _ _ _ z.at c.child_count-left.result c.if-levels-eq0.false n c.put_front.ensures c.headers-h.ensures c.data_of-d.ensures c.child_count-left.ensures
+    (bind-start z.levels s z.out.now _ _ _ z.at c.child_count-end.result c.if-levels-eq0.false n c.put_front.ensures c.of-left.ensures.headers c.of-left.ensures.content c.child_count-end.ensures
     ∙ g.invariant.0
-    ∙ ap (sets g.out (z.at + (length s - length g.d.now))) (datas-end (z.levels - 1) g.left g.h.now g.d.now c.loop-left-test.false))
+    ∙ ap (sets g.out (z.at + (length s - length g.left.data.now))) (datas-end (z.levels - 1) (c.child_count-end.result - g.counter) g.left.headers.now g.left.data.now (omega (arith, c.loop-test.false))))
 
 pub put_content-put_bind-requires : goal.put_content-put_bind-requires
 put_content-put_bind-requires t c = (omega arith, c.requires)

@@ -12,13 +12,10 @@ decreases-put_bind l = l.levels + l.levels + (length l.content.now + length l.co
 abbrev pub decreases-put_content : goal.decreases-put_content
 decreases-put_content l = l.levels + l.levels + (length l.content.now + length l.content.now) + 1
 
-abbrev pub invariant-put_bind-loop-left : goal.invariant-put_bind-loop-left
-invariant-put_bind-loop-left l =
-    (sets l.initial.out (l.at + (length l.content - length l.initial.d)) (clean_blocks (clean_bind (l.levels - 1)) l.initial.left l.initial.h l.initial.d)
-    ≡ sets l.out (l.at + (length l.content - length l.d)) (clean_blocks (clean_bind (l.levels - 1)) l.left l.h l.d))
+abbrev pub invariant-put_bind-loop : goal.invariant-put_bind-loop
+invariant-put_bind-loop l =
+    (sets l.initial.out (l.at + (length l.content - length l.initial.left.data.now)) (clean_blocks (clean_bind (l.levels - 1)) l.end l.initial.left.headers.now l.initial.left.data.now)
+    ≡ sets l.out (l.at + (length l.content - length l.left.data.now)) (clean_blocks (clean_bind (l.levels - 1)) (l.end - l.counter) l.left.headers.now l.left.data.now))
     × (length l.out ≡ length l.initial.out)
-    × (length l.d + 4 ≤ length l.content)
-    × (data_ok l.left l.h l.d ≡ true)
-
-abbrev pub decreases-put_bind-loop-left : goal.decreases-put_bind-loop-left
-decreases-put_bind-loop-left l = l.left
+    × (length l.left.data.now + 4 ≤ length l.content)
+    × (data_ok (l.end - l.counter) l.left.headers.now l.left.data.now ≡ true)

@@ -25,4 +25,4 @@ overflow_add-at-3 c = omega (arith, layout-fits c.args.content.now c.requires.0,
 
 pub returns : goal.returns
 returns c =
-    front-walk c.args.content.now c.args.out.now _ _ _ _ _ _ _ c.args.at c.child_count-n.result c.be16-table_size.result c.requires.0 c.put.ensures c.first.ensures c.put_headers.ensures c.child_count-n.ensures c.headers.ensures c.put-2.ensures c.first-2.ensures (c.be16-table_size.ensures ∙ ap (be_at 2 0) c.after_headers-after.ensures) c.after_headers-after.ensures
+    front-walk c.args.content.now c.args.out.now _ _ _ _ _ _ _ c.args.at c.child_count-n.result c.read-table_size.result c.requires.0 c.put.ensures c.first.ensures c.put_headers.ensures c.child_count-n.ensures c.headers.ensures c.put-2.ensures c.first-2.ensures (c.read-table_size.ensures ∙ ap (be_at 2 0) c.after_headers-after.ensures) c.after_headers-after.ensures

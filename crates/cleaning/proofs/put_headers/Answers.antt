@@ -1,34 +1,31 @@
-use mathlib.Core.Path.{refl, ap, sym, ◌∙◌}
+use mathlib.Core.Path.{◌≡◌, ap, ap₂, sym, ◌∙◌}
+use Prim.Native.Nat.{ℕ, ◌+◌, ◌-◌, ◌*◌}
 use native.Mathlib.Omega.{arith}
 use lib.ListN.{length, length-drop}
 use lib.Seq.{sets}
+use Rattle.fields.proofs.Laws.Text.{text_bytes-sized}
+use Rattle.cleaning.specs.CleanBytes.{clean_headers}
 use Rattle.cleaning.proofs.Laws.CleaningWalk.{headers-end, headers-walk}
 use Rattle.cleaning.proofs.put_headers.Goals as goal
 
-pub loop-left-init : goal.loop-left-init
-loop-left-init c = (refl, refl, refl, c.requires.0)
-
-pub overflow_add-to : goal.overflow_add-to
-overflow_add-to c = omega (arith, c.loop-left.invariant.2, c.requires.1)
-
-pub overflow_add-to-in-loop-left : goal.overflow_add-to-in-loop-left
-overflow_add-to-in-loop-left c = omega (arith, c.loop-left.invariant.2, c.requires.1)
-
-pub loop-left-preserved : goal.loop-left-preserved
-loop-left-preserved c =
-    let l = c.loop-left in
-    let p = c.loop-left-test.true in
-    let e = ap length c.rest-next.ensures ∙ length-drop 20 l.h.now in (
-      headers-walk _ l.out _ _ l.h.now _ _ _ l.to l.left l.invariant.0 p l.invariant.3 c.put_text12.ensures c.type_of.ensures c.put.ensures c.part.ensures c.rest-next.ensures,
-      c.put.auto.out ∙ c.put_text12.auto.out ∙ l.invariant.1,
-      omega (arith, l.invariant.2, p),
-      omega (arith, l.invariant.3, p, e),
+pub loop-i-preserved : goal.loop-i-preserved
+loop-i-preserved c =
+    let l = c.loop-i in
+    let a = c.args in
+    let p = c.loop-i-test.true in
+    let k = a.n - l.i in
+    let to = a.at + 20 * l.i in
+    let text = c.put.ensures ∙ ap (sets l.out to) (c.array-type_text.ensures ∙ sym (text_bytes-sized 12 c.type_of.result.now)) in
+    let e = ap length c.rest-left.ensures ∙ length-drop 20 l.left.now in
+    let there : to + 20 ≡ a.at + 20 * (l.i + 1) = omega arith in
+    let less : k - 1 ≡ a.n - (l.i + 1) = omega arith in (
+      headers-walk _ l.out _ _ l.left.now _ _ _ to k l.invariant.0 (omega (arith, p)) l.invariant.2 text c.type_of.ensures c.put-in-loop-i.ensures c.part.ensures c.rest-left.ensures
+          ∙ ap₂ (λ (t m : ℕ). sets c.put-in-loop-i.new.out t (clean_headers m c.rest-left.result.now)) there less,
+      c.put-in-loop-i.auto.out ∙ c.put.auto.out ∙ l.invariant.1,
+      omega (arith, l.invariant.2, p, e),
     )
-
-pub shape_of-out : goal.shape_of-out
-shape_of-out c = c.loop-left.invariant.1
 
 pub returns : goal.returns
 returns c =
-    let l = c.loop-left in
-    sym (l.invariant.0 ∙ ap (sets l.out l.to) (headers-end l.left l.h.now c.loop-left-test.false))
+    let l = c.loop-i in
+    sym (l.invariant.0 ∙ ap (sets l.out (c.args.at + 20 * l.i)) (headers-end (c.args.n - l.i) l.left.now (omega (arith, c.loop-i-test.false))))

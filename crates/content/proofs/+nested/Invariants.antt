@@ -10,11 +10,8 @@ decreases-nested_bind_check l = l.levels + l.levels + (length l.content.now + le
 abbrev pub decreases-nested_check : goal.decreases-nested_check
 decreases-nested_check l = l.levels + l.levels + (length l.content.now + length l.content.now) + 1
 
-abbrev pub invariant-nested_bind_check-loop-left : goal.invariant-nested_bind_check-loop-left
-invariant-nested_bind_check-loop-left l =
-    (bind_fault l.levels l.content ≡ children_fault (bind_fault (l.levels - 1)) l.left l.h l.d)
-    × (length l.d + 4 ≤ length l.content)
-    × (bind_clean l.levels l.content ≡ (l.clean && children_clean (bind_clean (l.levels - 1)) l.left l.h l.d))
-
-abbrev pub decreases-nested_bind_check-loop-left : goal.decreases-nested_bind_check-loop-left
-decreases-nested_bind_check-loop-left l = l.left
+abbrev pub invariant-nested_bind_check-loop : goal.invariant-nested_bind_check-loop
+invariant-nested_bind_check-loop l =
+    (bind_fault l.levels l.content ≡ children_fault (bind_fault (l.levels - 1)) (l.end - l.counter) l.left.headers.now l.left.data.now)
+    × (length l.left.data.now + 4 ≤ length l.content)
+    × (bind_clean l.levels l.content ≡ (l.clean && children_clean (bind_clean (l.levels - 1)) (l.end - l.counter) l.left.headers.now l.left.data.now))

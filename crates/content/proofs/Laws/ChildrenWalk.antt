@@ -6,8 +6,7 @@ use Prim.Native.Nat.{ℕ, zero, suc, ◌-◌, ◌≤◌, ◌<◌}
 use native.Mathlib.Omega.{arith}
 use lib.ListN.{take, drop}
 use Rattle.fields.specs.Checks.{or_else}
-use Rattle.fields.specs.declared.Checked.{Checked}
-use Rattle.fields.specs.Answer.{checked}
+use Rattle.fields.specs.Answer.{Checked, checked}
 use Rattle.fields.proofs.Laws.Answer.{checked-number, checked-mark, checked-same}
 use Rattle.fields.proofs.Laws.Checks.{else-first, else-second}
 use Rattle.fields.proofs.Laws.Walks.{walk_end, walk_step}

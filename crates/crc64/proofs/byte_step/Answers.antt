@@ -1,5 +1,5 @@
 use mathlib.Core.Path.{◌≡◌, refl, sym, ap, ◌∙◌}
-use Prim.Native.Nat.{ℕ, ◌<◌}
+use Prim.Native.Nat.{ℕ}
 use native.Mathlib.Omega.{arith}
 use Rattle.crc64.specs.Crc.{bit_step, run, bit_at, bits_of}
 use Rattle.crc64.proofs.Laws.{byte-take-suc, byte-take-all}
@@ -7,32 +7,19 @@ use Rattle.crc64.proofs.byte_step.Goals as goal
 
 pub loop-i-init : goal.loop-i-init
 unfolding run bits_of
-loop-i-init c = (omega arith, refl)
-
-pub overflow_sub-shift : goal.overflow_sub-shift
-overflow_sub-shift c = omega arith
-
-pub overflow_shr-value : goal.overflow_shr-value
-overflow_shr-value c = omega arith
-
-pub overflow_add-i : goal.overflow_add-i
-overflow_add-i c = omega arith
-
-pub loop-i-smaller : goal.loop-i-smaller
-loop-i-smaller c = omega arith
+loop-i-init c = refl
 
 pub loop-i-preserved : goal.loop-i-preserved
 unfolding bit_at
 loop-i-preserved c =
     let a = c.args in
     let l = c.loop-i in
-    let h : l.i < 8 = omega arith in
     let step : c.bit_step-register.result ≡ bit_step l.register (bit_at a.byte l.i) = c.bit_step-register.ensures in
-    let from = ap (λ (n : ℕ). bit_step n (bit_at a.byte l.i)) l.invariant.1 in
-    (omega arith, step ∙ from ∙ sym (byte-take-suc a.start a.byte l.i h))
+    let from = ap (λ (n : ℕ). bit_step n (bit_at a.byte l.i)) l.invariant in
+    step ∙ from ∙ sym (byte-take-suc a.start a.byte l.i c.loop-i-test.true)
 
 pub returns : goal.returns
 returns c =
     let a = c.args in
     let l = c.loop-i in
-    l.invariant.1 ∙ byte-take-all a.start a.byte l.i (omega arith)
+    l.invariant ∙ byte-take-all a.start a.byte l.i (omega arith)

@@ -1,7 +1,7 @@
 -- `exports::kudireppa_answer_at` meets its contract: four stores are one.
 use mathlib.Core.Path.{ap, ◌∙◌}
 use lib.Seq.{sets}
-use Rattle.replay.specs.declared.Answered.{Answered}
+use Rattle.replay.specs.Records.{Answered, answered_in}
 use Rattle.exports.specs.Exports.{answered_bytes}
 use Rattle.exports.proofs.Laws.{answered-stored}
 use Rattle.exports.proofs.kudireppa_answer_at.Goals as goal
@@ -11,5 +11,5 @@ returns c =
     let answer = c.answer_at in
     let out = c.args.out.now in
     c.put_answered.ensures
-    ∙ answered-stored out answer.result
+    ∙ answered-stored out (answered_in answer.result)
     ∙ ap (λ (r : Answered). sets out 0 (answered_bytes r)) answer.ensures.equal

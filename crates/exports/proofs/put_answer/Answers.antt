@@ -15,12 +15,12 @@ pub returns : goal.returns
 returns c =
     let a : Answer = c.args.answer in
     let out : List ℕ = c.args.out.now in
-    c.put64-2.ensures
+    c.put-2.ensures
     ∙ (λ i.
     sets
     ((c.put_parts.ensures
     ∙ ap (λ (o : List ℕ). stores o 56 (number_fields (replicate 6 8) (part_numbers a)) (replicate 6 8))
     (c.put_fields.ensures
-    ∙ ap (λ (o : List ℕ). stores o 8 (number_fields (replicate 6 8) (field_numbers a)) (replicate 6 8)) c.put64.ensures)) i)
+    ∙ ap (λ (o : List ℕ). stores o 8 (number_fields (replicate 6 8) (field_numbers a)) (replicate 6 8)) c.put.ensures)) i)
     104 (be_bytes 8 (c.mark_number.ensures i)))
     ∙ answer-stored out a

@@ -12,10 +12,7 @@ use Rattle.message.specs.declared.Layout.{Layout}
 use Rattle.message.specs.declared.Answer.{Answer}
 use Rattle.message.specs.MessageReader.{read_of, refused}
 use Rattle.message.proofs.Laws.Front.{read-whole-step}
-use Rattle.feed.specs.declared.Feed.{Feed}
-use Rattle.feed.specs.declared.PushAnswer.{PushAnswer}
-use Rattle.feed.specs.declared.PushAnswer.TheVariants.{Read}
-use Rattle.feed.specs.declared.PushResult.{PushResult}
+use Rattle.feed.specs.Feed.{Feed, PushAnswer, Read, PushResult}
 use Rattle.feed.specs.Reading.{end_of}
 use Rattle.feed.specs.Push.{keeping, passing, stopped_feed, push_of, buffer_of}
 use Rattle.feed.specs.Runs.{run, after}

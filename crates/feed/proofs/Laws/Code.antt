@@ -1,13 +1,22 @@
 -- What the code gives and stores at each of its returns is what the definitions say.
 use Prim.Native.Nat.{ℕ, ◌+◌, ◌-◌, ◌≤◌, ◌<◌, min}
-use mathlib.Core.Path.{◌≡◌, sym, ap, ap₂, ◌∙◌}
+use mathlib.Core.Path.{◌≡◌, refl, sym, ap, ap₂, ◌∙◌}
+use mathlib.Core.Bool.{false}
 use mathlib.Core.List.{List, ◌++◌}
 use native.Mathlib.Omega.{arith}
 use lib.Dec.{eqb, ltb}
 use lib.ListN.{length, take, length-append, length-take}
 use lib.Seq.{sets, length-sets, length-take-le}
 use borrow.Author.Tests.{eq-eqb, ne_eqb, lt-ltb, le-ltb}
+use Rattle.std.specs.Prelude.{Result, Err}
+use Rattle.std.specs.NonZero.{non_zero_usize_get}
+use Rattle.std.specs.Result.{IsErrAnd}
+use Rattle.std.specs.declared.num.NonZeroUsize.{NonZeroUsize}
+use Rattle.std.proofs.lemmas.Result.{err_from_is_err_and}
+use Rattle.fields.specs.declared.fault.Fault.{Fault}
+use Rattle.fields.specs.Fault.{fault_number}
 use Rattle.fields.specs.Answer.{room_fault}
+use Rattle.fields.proofs.Laws.Answer.{fault_some}
 use Rattle.fields.proofs.Laws.Stores.{take-sets, sets_over}
 use Rattle.fields.proofs.Laws.Tests.{cond_yes, cond_no}
 use Rattle.header.specs.Header.{body_limit}
@@ -16,15 +25,17 @@ use Rattle.header.specs.HeaderReader.{header_of, header_fault, header_read}
 use Rattle.header.proofs.Laws.Faults.{fault-passed, header-read-passed, header-read-number}
 use Rattle.message.specs.declared.Layout.{Layout}
 use Rattle.message.specs.MessageReader.{read_of, refused}
-use Rattle.feed.specs.declared.Feed.{Feed}
-use Rattle.feed.specs.declared.OpenAnswer.TheVariants as opening
-use Rattle.feed.specs.declared.PushAnswer.TheVariants.{Nothing, Read, Refused}
-use Rattle.feed.specs.declared.PushResult.{PushResult}
+use Rattle.feed.specs.Feed.{Feed, Nothing, Read, Refused, PushResult, step_in_state, left_in_state, is_stopped, feed_of, push_answered}
+use Rattle.feed.specs.Opening as opening
+use Rattle.feed.specs.declared.Feed as code
+use Rattle.feed.specs.declared.Pushed.{Pushed}
+use Rattle.feed.specs.declared.State.{State}
+use Rattle.feed.specs.declared.State.TheVariants.{Keeping, Passing, Stopped}
 use Rattle.feed.specs.Reading.{end_of}
 use Rattle.feed.specs.Push.{keeping, stopped_feed, open_of, pushed, push_fault, kept_in, passed_of, fitting_of, taken_in, push_of, stored_to, buffer_of}
 use Rattle.feed.proofs.Laws.Stores.{take-kept, front-put}
 use Rattle.feed.proofs.Laws.Rows.{short-fault, push-refused, buffer-refused, push-passing, buffer-passing, push-keeping, buffer-keeping, on-short, on-wrong, on-exceeding, on-fitting, to-header, to-exceeding, to_end}
-use Rattle.feed.proofs.Laws.Pushes.{same-front}
+use Rattle.feed.proofs.Laws.Pushes.{room-same, same-front}
 
 -- ---- open_feed
 
@@ -158,3 +169,34 @@ module _ (f : Feed) (s buf : List ℕ) where
           ap₂ (λ (n : ℕ) (t : List ℕ). taken_in f.layout (length buf) n (length s) (t ++ s)) c d ∙ sym (push-keeping f s buf z l),
           ap₂ (λ (n : ℕ) (t : List ℕ). sets buf n (take (stored_to (length buf) (t ++ s) - n) s)) c d ∙ sym (buffer-keeping f s buf z l),
         )
+
+-- ---- the code's feed
+
+pub none_left : (x : State) → ((step : ℕ) (left : NonZeroUsize) → x ≡ Passing step left → ⊥) → left_in_state x ≡ 0
+none_left (Keeping kept) h = refl
+none_left (Passing step left) h = absurd (h step left refl)
+none_left Stopped h = refl
+
+pub goes_on : (x : State) → (x ≡ Stopped → ⊥) → is_stopped x ≡ false
+goes_on (Keeping kept) h = refl
+goes_on (Passing step left) h = refl
+goes_on Stopped h = absurd (h refl)
+
+module _ (f : code.Feed) (s buf : List ℕ) where
+  -- it is refused
+  pub answers-refused : (e : Fault) (r : Result Pushed Fault) → fault_number e ≡ push_fault (feed_of f) (length buf) → IsErrAnd r (λ x. x ≡ e)
+      → (push_answered f r ≡ push_of (feed_of f) s buf) × (buf ≡ buffer_of (feed_of f) s buf)
+  answers-refused e r h k =
+      let p = err_from_is_err_and r k in
+      let w = push-refuses (feed_of f) s buf (fault_number e) h (fault_some e) in
+      (ap (push_answered f) (p.1 ∙ ap Err p.2) ∙ w.0, w.1)
+
+  module _ (z : push_fault (feed_of f) (length buf) ≡ 0) where
+    -- a message is passed over
+    pub answers-passing : (step left : ℕ) (x : NonZeroUsize) → f.state ≡ Passing step x → left ≡ non_zero_usize_get x → 0 < left
+        → (passed_of f.layout f.room step left (length s) ≡ push_of (feed_of f) s buf) × (buf ≡ buffer_of (feed_of f) s buf)
+    answers-passing step left x e l h =
+        let r : f.room ≡ length buf = sym (room-same (feed_of f) (length buf) z) in
+        let k : left ≡ left_in_state f.state = l ∙ sym (ap left_in_state e) in
+        let w = push-passes (feed_of f) s buf z (λ y. omega (arith, h, k, y)) in
+        ((λ i. passed_of f.layout (r i) (sym (ap step_in_state e) i) (k i) (length s)) ∙ w.0, w.1)

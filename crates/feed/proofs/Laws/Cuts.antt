@@ -14,8 +14,7 @@ use Rattle.header.proofs.Laws.Faults.{fault-passed}
 use Rattle.message.specs.declared.Layout.{Layout}
 use Rattle.message.specs.declared.Answer.{Answer}
 use Rattle.message.specs.MessageReader.{read_of, refused}
-use Rattle.feed.specs.declared.Feed.{Feed}
-use Rattle.feed.specs.declared.PushResult.{PushResult}
+use Rattle.feed.specs.Feed.{Feed, PushResult}
 use Rattle.feed.specs.Push.{keeping, passing, stopped_feed, push_fault, kept_in, push_of, stored_in}
 use Rattle.feed.specs.Reading.{Reading, end_of, answer_for, behind, reading_of}
 use Rattle.feed.specs.Runs.{Run, answered, after, run_on, opened, run, read_by}

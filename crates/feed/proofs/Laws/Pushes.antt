@@ -8,7 +8,7 @@ use native.Mathlib.Decide.{dec_le}
 use lib.Dec.{eqb}
 use lib.ListN.{length, get_or, take, drop, length-append, length-take, take-append-drop}
 use lib.Seq.{length-sets, length-take-le, take-append-le, take-take, take_all}
-use borrow.Author.Tests.{eq-eqb, ne_eqb}
+use borrow.Author.Tests.{eqb-true, eq-eqb, ne_eqb}
 use Rattle.fields.specs.Answer.{room_fault}
 use Rattle.fields.proofs.Laws.Checks.{cond-fault, cond-pass}
 use Rattle.fields.proofs.Laws.Answer.{room-enough, room_fits}
@@ -22,10 +22,7 @@ use Rattle.message.specs.declared.Answer.{Answer}
 use Rattle.message.specs.MessageReader.{read_of, refused, front_fault}
 use Rattle.message.proofs.Laws.Read.{header_refused}
 use Rattle.message.proofs.Laws.Front.{front-pass, read-whole-step, read-front}
-use Rattle.feed.specs.declared.Feed.{Feed}
-use Rattle.feed.specs.declared.PushAnswer.{PushAnswer}
-use Rattle.feed.specs.declared.PushAnswer.TheVariants.{Nothing, Read, Refused}
-use Rattle.feed.specs.declared.PushResult.{PushResult}
+use Rattle.feed.specs.Feed.{Feed, PushAnswer, Nothing, Read, Refused, PushResult}
 use Rattle.feed.specs.Reading.{end_of}
 use Rattle.feed.specs.Push.{pushed, push_fault, kept_in, push_of, stored_in}
 use Rattle.feed.specs.FeedTheorems.{Takes, Writes, Refuses}
@@ -100,6 +97,12 @@ unfolding push_fault
 room-large f room z =
     let a = cond-fault f.stopped 20 _ z in
     room_fits 58 room (cond-pass (eqb room f.room) 19 _ a.1).1
+
+pub room-same : (f : Feed) (room : ℕ) → push_fault f room ≡ 0 → room ≡ f.room
+unfolding push_fault
+room-same f room z =
+    let a = cond-fault f.stopped 20 _ z in
+    eqb-true room f.room (cond-pass (eqb room f.room) 19 _ a.1).0
 
 module _ (f : Feed) (s buf : List ℕ) where
   abbrev t : List ℕ

@@ -12,9 +12,7 @@ use Rattle.header.specs.HeaderReader.{header_fault}
 use Rattle.header.proofs.Laws.Faults.{fault-short, fault-passed}
 use Rattle.message.specs.declared.Layout.{Layout}
 use Rattle.message.specs.MessageReader.{read_of, refused}
-use Rattle.feed.specs.declared.Feed.{Feed}
-use Rattle.feed.specs.declared.PushAnswer.TheVariants.{Nothing, Read, Refused}
-use Rattle.feed.specs.declared.PushResult.{PushResult}
+use Rattle.feed.specs.Feed.{Feed, Nothing, Read, Refused, PushResult}
 use Rattle.feed.specs.Reading.{end_of}
 use Rattle.feed.specs.Push.{keeping, passing, stopped_feed, pushed, push_fault, kept_in, passed_of, fitting_of, taken_in, push_of, stored_to, stored_in, buffer_of}
 

@@ -2,8 +2,8 @@
 use Rattle.std.proofs.Common.{◌≡◌, length}
 use Rattle.feed_streams.proofs.push_whole.Given as goal
 
-abbrev pub invariant-loop-last : goal.invariant-loop-last
-invariant-loop-last g l = length l.buffer ≡ length l.initial.buffer
+abbrev pub invariant-loop-taken : goal.invariant-loop-taken
+invariant-loop-taken g l = length l.buffer ≡ length l.initial.buffer
 
-abbrev pub decreases-loop-last : goal.decreases-loop-last
-decreases-loop-last g l = length l.left
+abbrev pub decreases-loop-taken : goal.decreases-loop-taken
+decreases-loop-taken g l = length l.left

@@ -13,7 +13,7 @@ use borrow.Author.Tests.{eqb-true, ne_eqb, leb-true, leb-false}
 use Rattle.fields.specs.Lists.{all_of}
 use Rattle.fields.specs.Bytes.{Bytes, part, sized}
 use Rattle.fields.specs.Text.{text_limit, text_byte, Text, is_text, text_of, past_text, all_zero, text_ok, text_clean, field_ok, text_bytes}
-use Rattle.fields.specs.declared.text.TextField.{TextField}
+use Rattle.fields.specs.Received.{TextField}
 use Rattle.fields.specs.Received.{rest_of, Rest, zeroed, field_bytes, Fills, field_read, ReceivedFields}
 use Rattle.fields.proofs.Laws.Bytes.{sized-fits, length-sized, length_part, bytes_drop, bytes-part, bytes-nil, bytes-cons}
 use Rattle.fields.proofs.Laws.Checks.{and_split, and-join}

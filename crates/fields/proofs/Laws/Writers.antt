@@ -1,16 +1,18 @@
 -- Every writer: what is stated of it, and what its code owes to keep its promise.
 use Prim.Native.Nat.{ℕ, ◌≤◌}
 use mathlib.Core.Path.{◌≡◌, sym, ap, ◌∙◌}
+use mathlib.Core.Bool.{false≢true}
 use mathlib.Core.List.{List, ◌++◌}
 use lib.Dec.{eqb}
 use lib.ListN.{length, take, drop}
 use lib.Seq.{sets, take_at, drop_at}
 use borrow.Author.Tests.{eq-eqb, ne_eqb}
-use Rattle.fields.specs.Answer.{written_number, written_count, room_fault}
+use Rattle.std.specs.Prelude.{Result, Ok, Err, IsErr}
+use Rattle.fields.specs.Answer.{Written, Wrote, Refused, written_of, written_number, written_count, room_fault}
 use Rattle.fields.specs.Writers.{writer_fault, written_count_by, written_by, out_by, WriterPromise, WriterTheorems}
-use Rattle.fields.specs.declared.Written.{Written}
-use Rattle.fields.specs.declared.Written.TheVariants.{Wrote, Refused}
-use Rattle.fields.proofs.Laws.Answer.{room-enough, room_fits}
+use Rattle.fields.specs.declared.fault.Fault.{Fault}
+use Rattle.fields.specs.Fault.{fault_number, number_of}
+use Rattle.fields.proofs.Laws.Answer.{fault_some, room-enough, room_fits}
 use Rattle.fields.proofs.Laws.Checks.{zero-else, else-zero}
 use Rattle.fields.proofs.Laws.Stores.{sets-front}
 use Rattle.fields.proofs.Laws.Tests.{by_zero, cond_yes, cond_no}
@@ -93,11 +95,13 @@ module _ (fault : ℕ) (bytes : List ℕ) where
         buffer = b;
       }
 
-  -- the code found the fault n
-  pub refuses : (out : List ℕ) (n : ℕ) → n ≡ writer_fault fault bytes (length out) → (n ≡ 0 → ⊥) → WriterPromise fault bytes out (Refused n) out
-  refuses out n e h =
-      let k : writer_fault fault bytes (length out) ≡ 0 → ⊥ = λ z. h (e ∙ z) in
-      promise out out (Refused n) (ap Refused e ∙ sym (answer-refused (length out) k)) (sym (out-kept out k))
+  -- the code found a fault
+  pub refuses : (out : List ℕ) (r : Result ℕ Fault) → IsErr r → number_of r ≡ writer_fault fault bytes (length out)
+      → WriterPromise fault bytes out (written_of r) out
+  refuses out (Ok n) h e = absurd (false≢true h)
+  refuses out (Err f) h e =
+      let k : writer_fault fault bytes (length out) ≡ 0 → ⊥ = λ z. fault_some f (e ∙ z) in
+      promise out out (Refused (fault_number f)) (ap Refused e ∙ sym (answer-refused (length out) k)) (sym (out-kept out k))
 
   -- it found none, and wrote the n bytes
   pub writes : (out left : List ℕ) (n : ℕ) → writer_fault fault bytes (length out) ≡ 0 → n ≡ length bytes → left ≡ bytes ++ drop n out

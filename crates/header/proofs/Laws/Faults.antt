@@ -153,13 +153,6 @@ header-read-number s =
     (λ e. ap (λ (r : HeaderRead). r.number) (header-read-passed s e) ∙ sym e)
     (λ z. ap (λ (r : HeaderRead). r.number) (header-read-refused s z))
 
--- ---- as the code has it: the two fields are read first
-
-pub read-fault : (s : List ℕ) → 58 ≤ length s → {ok : Bool} {size : ℕ} → ok ≡ (text_ok (part 12 2 s) && text_ok (part 20 14 s)) → size ≡ (header_of s).body_size
-    → or_else (cond ok 0 2) (limit_fault size) ≡ header_fault s
-unfolding texts_fault
-read-fault s h ok size = ap₂ (λ (b : Bool) (n : ℕ). or_else (cond b 0 2) (limit_fault n)) ok size ∙ sym (fault-long s h)
-
 -- of an accepted header the lengths are those of the texts, and the mark is that of the two rests
 pub read-handed : (s : List ℕ) → header_fault s ≡ 0 → {t n : ℕ} {mark : Bool} → t ≡ (field_read (part 12 2 s)).len → n ≡ (field_read (part 20 14 s)).len
     → mark ≡ (field_ok (part 12 2 s) && field_ok (part 20 14 s)) → handed_with (header_of s) t n mark ≡ header_read s

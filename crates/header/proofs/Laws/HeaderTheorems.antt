@@ -9,9 +9,8 @@ use Rattle.fields.specs.Bytes.{Bytes, part}
 use Rattle.fields.specs.Numbers.{be_at}
 use Rattle.fields.specs.Text.{Text, text_of, all_zero, text_ok}
 use Rattle.fields.specs.Received.{rest_of, Rest}
-use Rattle.fields.specs.Answer.{written_number}
+use Rattle.fields.specs.Answer.{Wrote, written_number}
 use Rattle.fields.specs.Writers.{writer_fault, WriterTheorems}
-use Rattle.fields.specs.declared.Written.TheVariants.{Wrote}
 use Rattle.fields.proofs.Laws.Checks.{else-fault, else-second, and_split, and-join}
 use Rattle.fields.proofs.Laws.Writers.{writer-theorems}
 use Rattle.fields.proofs.Laws.Text.{text-ok}

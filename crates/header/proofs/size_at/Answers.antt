@@ -4,4 +4,4 @@ use Rattle.header.proofs.size_at.Goals as goal
 
 pub returns : goal.returns
 unfolding header_of
-returns c = c.be64.ensures
+returns c = c.read.ensures

@@ -1,10 +1,11 @@
 -- `image::pixels` meets its contract: the law of each case.
 use mathlib.Core.Path.{sym, ◌∙◌}
+use Rattle.fields.proofs.Laws.Answer.{fault_some}
 use Rattle.image.proofs.Laws.{pixels-accepted, pixels-refused}
 use Rattle.image.proofs.pixels.Goals as goal
 
-pub returns-then-image_fault-ne0 : goal.returns-then-image_fault-ne0
-returns-then-image_fault-ne0 c = c.first.ensures ∙ sym (pixels-refused _ (λ e. c.if-image_fault-ne0.true (c.image_fault.ensures ∙ e)))
+pub returns-in-Ok : goal.returns-in-Ok
+returns-in-Ok c = c.rest.ensures ∙ sym (pixels-accepted _ (sym c.in-Ok.ensures))
 
-pub returns : goal.returns
-returns c = c.rest.ensures ∙ sym (pixels-accepted _ (sym c.image_fault.ensures ∙ c.if-image_fault-ne0.false))
+pub returns-in-Err : goal.returns-in-Err
+returns-in-Err c = c.first.ensures ∙ sym (pixels-refused _ (λ z. fault_some c.in-Err.field-0 (c.in-Err.ensures ∙ z)))

@@ -1,13 +1,18 @@
 -- `image::read_image` meets its contract: the law of each case.
-use Prim.Native.Nat.{ℕ}
-use mathlib.Core.Path.{ap₂, sym, ◌∙◌}
+use mathlib.Core.Path.{◌≡◌, ap, sym, ◌∙◌}
+use Rattle.std.proofs.Common.{rules}
+use Rattle.fields.specs.Fault.{number_of}
 use Rattle.image.specs.declared.ImageHeader.{ImageHeader}
-use Rattle.image.specs.declared.ImageRead.{ImageRead}
-use Rattle.image.proofs.Laws.{read_kept, read-refused}
+use Rattle.image.specs.ImageReader.{ImageRead, image_fault}
+use Rattle.image.proofs.Laws.{read-accepted, refused-image}
 use Rattle.image.proofs.read_image.Goals as goal
 
-pub returns-then-number-ne0 : goal.returns-then-number-ne0
-returns-then-number-ne0 c = ap₂ {C = ImageRead} (λ (n : ℕ) (h : ImageHeader). record { number = n; header = h }) c.image_fault-number.ensures c.no_header-header.ensures ∙ sym (read-refused _ (λ e. c.if-number-ne0.true (c.image_fault-number.ensures ∙ e)))
+pub returns-in_err-image_fault : goal.returns-in_err-image_fault
+returns-in_err-image_fault c =
+    let e : number_of c.from_residual.result ≡ image_fault c.args.content.now = search rules in
+    refused-image c.args.content.now c.from_residual.result c.from_residual.ensures.0 e
 
 pub returns : goal.returns
-returns c = ap₂ {C = ImageRead} (λ (n : ℕ) (h : ImageHeader). record { number = n; header = h }) c.image_fault-number.ensures c.header_of-header.ensures ∙ sym (read_kept _ (sym c.image_fault-number.ensures ∙ c.if-number-ne0.false))
+returns c =
+    ap {B = ImageRead} (λ (h : ImageHeader). record { number = 0; header = h }) c.header_of.ensures
+    ∙ sym (read-accepted c.args.content.now (sym c.in_ok-image_fault.ensures))

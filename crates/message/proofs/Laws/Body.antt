@@ -346,12 +346,6 @@ not_extended l b h = is_false (extended_ok l b) (λ k. h (passed l b k))
 pub extended-refused : (l : Layout) (v : ℕ) (b : List ℕ) → v ≡ 2 → BreaksExtended l b → extended_fault l v b ≡ 6
 extended-refused l v b e h = fault-2 l v b e ∙ ap (λ (t : Bool). cond t 0 6) (not_extended l b (breaks l b h))
 
--- the last test of check 6, as the code makes it
-pub extended-last : (l : Layout) (b : List ℕ) → 12 ≤ length b → 12 ≤ extended_size b → reserved_ok l b ≡ true
-    → leb (extended_size b + section_size l b) (length b) ≡ extended_ok l b
-unfolding extended_ok
-extended-last l b h k e = simp (le-leb 12 (length b) h, le-leb 12 (extended_size b) k, e)
-
 -- ---- the length of a body
 
 pub length-1 : (l : Layout) (v k : ℕ) (x : Sections) → (v ≡ 2 → ⊥) → length (encode_body l v k x) ≡ length x.content

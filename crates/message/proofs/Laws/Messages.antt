@@ -7,7 +7,7 @@ use mathlib.Core.List.{List, ◌++◌}
 use native.Mathlib.Omega.{arith}
 use lib.ListN.{length, take, drop, take-append-drop}
 use lib.Seq.{take_at}
-use Rattle.fields.specs.declared.Written.TheVariants.{Wrote}
+use Rattle.fields.specs.Answer.{Wrote}
 use Rattle.fields.specs.Bytes.{Bytes}
 use Rattle.fields.specs.Numbers.{be_at}
 use Rattle.fields.specs.Text.{all_zero}

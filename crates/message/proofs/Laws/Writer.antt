@@ -9,7 +9,7 @@ use lib.Dec.{eqb, leb}
 use lib.ListN.{length, take, drop, length-append, drop_of_length-le}
 use lib.Seq.{sets, take_all, take_at, drop_at, drop-drop, length-take-le}
 use borrow.Rule.Slice.PartMut.{put_mid}
-use borrow.Author.Tests.{eqb-true, eqb-false, leb-true, leb-false, le-leb, lt-leb, eq-eqb, ne_eqb}
+use borrow.Author.Tests.{eqb-true, eqb-false, leb-true, leb-false, le-leb, eq-eqb, ne_eqb}
 use Rattle.fields.specs.Bytes.{part}
 use Rattle.fields.specs.Checks.{or_else}
 use Rattle.fields.proofs.Laws.Bytes.{length_part}
@@ -17,10 +17,12 @@ use Rattle.fields.proofs.Laws.Stores.{sets-front}
 use Rattle.fields.proofs.Laws.Checks.{zero-else, else-first, else-fault, else-second, cond-pass, and_split, and-join}
 use Rattle.fields.proofs.Laws.Tests.{by-test}
 use Rattle.fields.proofs.Laws.Writers.{refuses, writes}
-use Rattle.fields.specs.Answer.{room_fault}
+use Rattle.std.specs.Prelude.{Result, IsErr}
+use Rattle.fields.specs.declared.fault.Fault.{Fault}
+use Rattle.fields.specs.Fault.{number_of}
+use Rattle.fields.proofs.Laws.Answer.{err_number}
+use Rattle.fields.specs.Answer.{Written, Wrote, written_of, room_fault}
 use Rattle.fields.specs.Writers.{writer_fault, WriterPromise}
-use Rattle.fields.specs.declared.Written.{Written}
-use Rattle.fields.specs.declared.Written.TheVariants.{Wrote, Refused}
 use Rattle.crc64.specs.Crc.{crc_of}
 use Rattle.header.specs.Header.{Header, HeaderFits, encode_header, body_limit}
 use Rattle.header.specs.HeaderReader.{header_of, limit_fault}
@@ -54,28 +56,6 @@ fit-2 : (l : Layout) (v : ℕ) (x : Sections) → v ≡ 2
     → fit_ok l v x ≡ (leb (12 + length x.further) 65535 && size_fits l (index_size_in x.metadata) (length x.metadata))
 unfolding fits
 fit-2 l v x h = simp (eq-eqb v 2 h)
-
--- the same test by test, as the code makes it
-module _ (l : Layout) (v i f k m : ℕ) where
-  pub fits-long : v ≡ 2 → 65535 < 12 + f → fits l v i f k m ≡ false
-  unfolding fits
-  fits-long e h = simp (eq-eqb v 2 e, lt-leb (12 + f) 65535 h)
-
-  pub fits-rest : v ≡ 2 → 12 + f ≤ 65535 → fits l v i f k m ≡ size_fits l k m
-  unfolding fits
-  fits-rest e h = simp (eq-eqb v 2 e, le-leb (12 + f) 65535 h)
-
-  pub fits-id : (v ≡ 2 → ⊥) → (i ≡ 0 → ⊥) → fits l v i f k m ≡ false
-  unfolding fits
-  fits-id e h = simp (ne_eqb v 2 e, ne_eqb i 0 h)
-
-  pub fits-further : (v ≡ 2 → ⊥) → i ≡ 0 → (f ≡ 0 → ⊥) → fits l v i f k m ≡ false
-  unfolding fits
-  fits-further e h n = simp (ne_eqb v 2 e, eq-eqb i 0 h, ne_eqb f 0 n)
-
-  pub fits-none : (v ≡ 2 → ⊥) → i ≡ 0 → f ≡ 0 → fits l v i f k m ≡ eqb m 0
-  unfolding fits
-  fits-none e h n = simp (ne_eqb v 2 e, eq-eqb i 0 h, eq-eqb f 0 n)
 
 -- ---- the length of a body
 
@@ -372,9 +352,9 @@ module _ (l : Layout) (p : Parts) (out : List ℕ) where
   abbrev Promise : Written → List ℕ → Type 0
   Promise answer left = WriterPromise (given_fault l p) (message_bytes l p) out answer left
 
-  pub answers-checks : (n : ℕ) → n ≡ given_fault l p → (n ≡ 0 → ⊥) → Promise (Refused n) out
-  answers-checks n e h =
-      refuses (given_fault l p) (message_bytes l p) out n (e ∙ sym (else-first (given_fault l p) _ (λ z. h (e ∙ z)))) h
+  pub answers-checks : (r : Result ℕ Fault) → IsErr r → number_of r ≡ given_fault l p → Promise (written_of r) out
+  answers-checks r h e =
+      refuses (given_fault l p) (message_bytes l p) out r h (e ∙ sym (else-first (given_fault l p) _ (λ z. err_number r h (e ∙ z))))
 
   -- n is the length of the body, and k what the room's check gave
   module _ (n k : ℕ) (e : n ≡ length (body_given l p)) (z : given_fault l p ≡ 0) (r : k ≡ room_fault (58 + n) (length out)) where
@@ -384,8 +364,8 @@ module _ (l : Layout) (p : Parts) (out : List ℕ) where
     checked : k ≡ writer_fault (given_fault l p) (message_bytes l p) (length out)
     checked = r ∙ ap (λ (j : ℕ). room_fault j (length out)) whole_length ∙ sym (else-second (given_fault l p) _ z)
 
-    pub answers-room : (k ≡ 0 → ⊥) → Promise (Refused k) out
-    answers-room h = refuses (given_fault l p) (message_bytes l p) out k checked h
+    pub answers-room : (q : Result ℕ Fault) → IsErr q → number_of q ≡ k → Promise (written_of q) out
+    answers-room q h f = refuses (given_fault l p) (message_bytes l p) out q h (f ∙ checked)
 
     pub answers-written : k ≡ 0 → (left : List ℕ) → left ≡ encode_parts l (clean_parts p) ++ drop (58 + n) out → Promise (Wrote (58 + n)) left
     answers-written h left f = writes (given_fault l p) (message_bytes l p) out left (58 + n) (sym checked ∙ h) whole_length f

@@ -1,6 +1,9 @@
 -- `message::read` meets its contract: the reader's steps in turn.
-use mathlib.Core.Path.{◌∙◌}
+use Prim.Native.Nat.{ℕ, ◌+◌}
+use mathlib.Core.Path.{refl, ap, ◌∙◌}
+use Rattle.fields.proofs.Laws.Answer.{fault_some}
 use native.Mathlib.Omega.{arith}
+use Rattle.message.specs.MessageReader.{refused}
 use Rattle.message.proofs.Laws.Read.{says-header, size-limit, says-short, says-body, says-accepted, laid_out}
 use Rattle.message.proofs.read.Goals as goal
 
@@ -13,14 +16,16 @@ overflow_add-size c = omega (arith, size-limit _ _ c.read_header-header.ensures 
 pub returns-then-stream-size : goal.returns-then-stream-size
 returns-then-stream-size c = c.refusal-then-stream-size.ensures ∙ says-short _ _ _ c.read_header-header.ensures c.if-number-ne0.false (omega (arith, c.if-stream-size.true))
 
-pub returns-then-checks-ne0 : goal.returns-then-checks-ne0
-returns-then-checks-ne0 c =
-    c.refusal-then-checks-ne0.ensures ∙ says-body _ _ _ c.read_header-header.ensures c.if-number-ne0.false (omega (arith, c.if-stream-size.false)) _ _ c.type_text.ensures c.part-body.ensures _ c.sections-places.ensures _ c.body_check-checks.ensures c.if-checks-ne0.true
-
 pub accept-requires : goal.accept-requires
 accept-requires c =
-    (size-limit _ _ c.read_header-header.ensures c.if-number-ne0.false, laid_out _ _ _ c.read_header-header.ensures c.if-number-ne0.false (omega (arith, c.if-stream-size.false)) _ _ c.type_text.ensures c.part-body.ensures _ c.sections-places.ensures _ c.body_check-checks.ensures c.if-checks-ne0.false)
+    (size-limit _ _ c.read_header-header.ensures c.if-number-ne0.false, laid_out _ _ _ c.read_header-header.ensures c.if-number-ne0.false (omega (arith, c.if-stream-size.false)) _ _ c.type_text.ensures c.part.ensures _ c.sections-places.ensures _ c.in-Ok.ensures refl)
 
-pub returns : goal.returns
-returns c =
-    c.accept.ensures ∙ says-accepted _ _ _ c.read_header-header.ensures c.if-number-ne0.false (omega (arith, c.if-stream-size.false)) _ _ c.type_text.ensures c.part-body.ensures _ c.sections-places.ensures _ c.body_check-checks.ensures c.if-checks-ne0.false _ c.both.ensures
+pub returns-in-Ok : goal.returns-in-Ok
+returns-in-Ok c =
+    c.accept.ensures ∙ says-accepted _ _ _ c.read_header-header.ensures c.if-number-ne0.false (omega (arith, c.if-stream-size.false)) _ _ c.type_text.ensures c.part.ensures _ c.sections-places.ensures _ c.in-Ok.ensures refl _ refl
+
+pub returns-in-Err : goal.returns-in-Err
+returns-in-Err c =
+    c.refusal-in-Err.ensures
+    ∙ ap (λ (n : ℕ). refused n (58 + c.read_header-header.result.body_size)) c.number.ensures
+    ∙ says-body _ _ _ c.read_header-header.ensures c.if-number-ne0.false (omega (arith, c.if-stream-size.false)) _ _ c.type_text.ensures c.part.ensures _ c.sections-places.ensures _ c.in-Err.ensures (fault_some c.in-Err.fault)

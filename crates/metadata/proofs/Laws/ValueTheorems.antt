@@ -13,10 +13,9 @@ use Rattle.fields.specs.Numbers.{be_val}
 use Rattle.fields.proofs.Laws.Bytes.{same_refl, not_same}
 use Rattle.fields.proofs.Laws.Lists.{flat-cons, flat_append, each-middle, first_or_none}
 use Rattle.fields.proofs.Laws.Tests.{by_zero}
-use Rattle.metadata.specs.declared.ValuePlace.{ValuePlace}
 use Rattle.metadata.specs.Metadata.{Entry, Metadata, absent, section, entry_header, entry_data, encode_metadata, WellEntry, WellMetadata}
 use Rattle.metadata.specs.MetadataCheck.{index_count, headers_of, data_of, metadata_fault}
-use Rattle.metadata.specs.ValueLookup.{refused, place_in, searched, value_place, value_of}
+use Rattle.metadata.specs.ValueLookup.{ValuePlace, refused, place_in, searched, value_place, value_of}
 use Rattle.metadata.specs.ValueTheorems.{entries_of, HasEntries, NoneKeyed, FirstKeyed, place_among, ValueTheorems}
 use Rattle.metadata.proofs.Laws.Entries.{length-entry_data, header-rest, header-key, header-encoding, header-value, data-past-key, key-written, rest_written}
 use Rattle.metadata.proofs.Laws.Sections.{length-written, count-written, headers-written, data-written}

@@ -16,8 +16,7 @@ use Rattle.room.proofs.Laws.Room.{Received, RoomTile, Room, fresh_room, entry_of
 use Rattle.panel.specs.declared.Value.{Value}
 use Rattle.panel.specs.declared.Label.{Label}
 use Rattle.panel.specs.declared.Link.{Link}
-use Rattle.panel.specs.declared.Tile.{Tile}
-use Rattle.panel.specs.declared.Panel.{Panel}
+use Rattle.panel.specs.Records.{Tile, Panel}
 use Rattle.panel.specs.Tiles.{value_of, label_of, free_tile, no_tile, is_tile}
 use Rattle.panel.specs.Calls.{fresh_panel}
 use Rattle.panel.proofs.Laws.Labels.{allowed, allowed-texts, same_label, label-says}

@@ -21,9 +21,7 @@ use Rattle.room.proofs.Laws.Room.{Received, RoomTile, Room, room_at, room_after}
 use Rattle.room.proofs.Laws.Component.{room-more}
 use Rattle.room.proofs.Laws.OneRoom.{one-room}
 use Rattle.panel.specs.declared.Value.{Value}
-use Rattle.panel.specs.declared.Tile.{Tile}
-use Rattle.panel.specs.declared.Panel.{Panel}
-use Rattle.panel.specs.declared.LookResult.{LookResult}
+use Rattle.panel.specs.Records.{Tile, Panel, LookResult}
 use Rattle.panel.specs.declared.LookAnswer.TheVariants.{Empty}
 use Rattle.panel.specs.Tiles.{no_value, no_tile, coloured}
 use Rattle.panel.specs.Calls.{fresh_panel, look_fault, looked_at, refused_look, look_of}

@@ -3,10 +3,11 @@ use Prim.Native.Nat.{ℕ, ◌≤◌}
 use mathlib.Core.Path.{◌≡◌, refl, sym, ap, ap₂, subst, ◌∙◌}
 use mathlib.Core.Logic.{◌⊎◌, inl, inr, ⊎_elim}
 use mathlib.Core.Bool.{Bool, true, ◌&&◌}
-use mathlib.Core.List.{List}
+use mathlib.Core.List.{List, [], ◌∷◌}
 use native.Mathlib.Omega.{arith}
-use lib.Dec.{leb}
+use lib.Dec.{eqb, leb}
 use lib.ListN.{length}
+use lib.Pointwise.{pointwise}
 use borrow.Author.Tests.{leb-true}
 use Rattle.fields.specs.Bytes.{same, sized}
 use Rattle.fields.specs.Lists.{all_of}
@@ -79,3 +80,11 @@ label-says t n e w v =
     ap₂ (λ (x y : Bool). x && y)
     (field-same 12 e.type_text t v.type-text w.type-text v.type_fits w.type_fits)
     (field-same 20 e.name n v.name_text w.name_text v.name_fits w.name_fits)
+
+-- equal bytes, as the library compares them
+pub same-bytes : (a b : List ℕ) → pointwise eqb a b ≡ same a b
+unfolding same
+same-bytes [] [] = refl
+same-bytes [] (y ∷ b) = refl
+same-bytes (x ∷ a) [] = refl
+same-bytes (x ∷ a) (y ∷ b) = ap (λ (t : Bool). eqb x y && t) (same-bytes a b)

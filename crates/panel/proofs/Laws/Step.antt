@@ -36,8 +36,7 @@ use Rattle.room.proofs.Laws.Room as room
 use Rattle.room.proofs.Laws.Component.{room-accepted, room-refused}
 use Rattle.panel.specs.declared.Value.{Value}
 use Rattle.panel.specs.declared.Label.{Label}
-use Rattle.panel.specs.declared.Tile.{Tile}
-use Rattle.panel.specs.declared.Panel.{Panel}
+use Rattle.panel.specs.Records.{Tile, Panel}
 use Rattle.panel.specs.declared.LookAnswer.TheVariants.{Empty}
 use Rattle.panel.specs.Tiles.{no_value, label_of, no_tile, new_tile, is_tile, relinked, counted_tile, counted_for, coloured, colour_of, free_in}
 use Rattle.panel.specs.Calls as panel

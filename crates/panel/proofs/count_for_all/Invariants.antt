@@ -1,12 +1,10 @@
--- `panel::count_for_all` meets its contract. The loop's invariant: the first `i` tiles are changed, and whether the message is for one of
+-- `panel::count_for_all` meets its contract. The loop's invariant: the first tiles are changed, and whether the message is for one of
 -- them is known.
-use Prim.Native.Nat.{◌-◌}
-use Rattle.panel.specs.Tiles.{is_tile, counted_for}
+use Rattle.std.specs.Prelude.{map}
+use Rattle.panel.specs.Tiles.{tile_of, is_tile, counted_tile}
 use Rattle.panel.proofs.Laws.Table.{Walking}
 use Rattle.panel.proofs.count_for_all.Given as goal
 
-abbrev pub invariant-loop-i : goal.invariant-loop-i
-invariant-loop-i l = Walking (counted_for l.label l.clock l.value) (is_tile l.label) l.initial.changed l.i l.changed l.counts
-
-abbrev pub decreases-loop-i : goal.decreases-loop-i
-decreases-loop-i l = 16 - l.i
+abbrev pub invariant-loop-place : goal.invariant-loop-place
+invariant-loop-place l =
+    Walking (is_tile l.label) (λ x. counted_tile x l.clock l.value) (map tile_of l.initial.tiles) l.place-index (map tile_of l.tiles) l.counts

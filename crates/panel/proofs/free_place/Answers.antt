@@ -1,27 +1,13 @@
-use native.Mathlib.Omega.{arith}
-use lib.ListN.{get_or}
-use borrow.Author.Tests.{not-true, not-false}
-use Rattle.panel.specs.Tiles.{no_tile}
-use Rattle.panel.proofs.Laws.Table.{free_step, free-stop, free-end}
+-- `panel::free_place` meets its contract: what the search answers.
+use Rattle.std.proofs.Common.{rules, tests}
+use Rattle.std.specs.Prelude.{is_none}
+use Rattle.std.proofs.lemmas.Iterator.{YieldsList-from_slice}
+use Rattle.std.proofs.lemmas.Iterator.Search.{position_from_yields_List}
+use Rattle.panel.proofs.Laws.Table.{free-placed}
 use Rattle.panel.proofs.free_place.Goals as goal
 
-pub loop-i-init : goal.loop-i-init
-loop-i-init c = (omega arith, c.well_formed.0.1.0.1, omega arith)
-
-pub returns-then-not-tile : goal.returns-then-not-tile
-returns-then-not-tile c =
-    let ts = c.args.tiles in
-    let l = c.loop-i in
-    omega (arith, l.invariant.2, free-stop ts l.i (omega arith) (not-true (get_or ts l.i no_tile).used c.if-not-tile.true))
-
-pub loop-i-preserved : goal.loop-i-preserved
-loop-i-preserved c =
-    let ts = c.args.tiles in
-    let l = c.loop-i in
-    let e = free_step ts l.i (omega arith) (not-false (get_or ts l.i no_tile).used c.if-not-tile.false) in
-    (omega arith, l.invariant.1, omega (arith, l.invariant.2, e))
-
-pub returns : goal.returns
-returns c =
-    let l = c.loop-i in
-    omega (arith, l.invariant, free-end c.args.tiles l.i (omega arith))
+pub returns-clause-place : goal.returns-clause-place
+returns-clause-place c =
+    let xs = c.args.tiles in
+    free-placed xs c.well_formed.0.1.0.1 c.position.result
+    (position_from_yields_List is_none _ _ _ c.position.ensures.ran (YieldsList-from_slice xs cc) (λ x b q k. search (rules, tests)))

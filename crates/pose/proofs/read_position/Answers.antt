@@ -1,17 +1,19 @@
 -- `pose::read_position` meets its contract: the law of an accepted content and that of a refused one.
-use mathlib.Core.Path.{◌≡◌, sym, ap, ◌∙◌}
-use Rattle.pose.specs.PositionReader.{some_position, no_position, position_of}
-use Rattle.pose.proofs.Laws.{position-read, position-refused}
+use mathlib.Core.Path.{◌≡◌, sym}
+use Rattle.std.proofs.Common.{rules}
+use Rattle.fields.specs.Fault.{number_of}
+use Rattle.pose.specs.PositionReader.{position_fault, some_position, position_of}
+use Rattle.pose.proofs.Laws.{position-read, refused-position}
 use Rattle.pose.proofs.read_position.Goals as goal
 
-pub returns-then-number-ne0 : goal.returns-then-number-ne0
-returns-then-number-ne0 c =
+pub returns-in_err-position_fault : goal.returns-in_err-position_fault
+returns-in_err-position_fault c =
     let s = c.args.content.now in
-    let e = c.position_fault-number.ensures in
-    ap no_position e ∙ sym (position-refused s (λ z. c.if-number-ne0.true (e ∙ z)))
+    let e : number_of c.from_residual.result ≡ position_fault s = search rules in
+    refused-position s c.from_residual.result c.from_residual.ensures.0 e
 
 pub returns : goal.returns
 returns c =
     let s = c.args.content.now in
-    let e : position_of s ≡ some_position s = position-read s (sym c.position_fault-number.ensures ∙ c.if-number-ne0.false) in
+    let e : position_of s ≡ some_position s = position-read s (sym c.in_ok-position_fault.ensures) in
     cc

@@ -7,7 +7,6 @@ use mathlib.Core.Option.{some}
 use native.Mathlib.Omega.{arith}
 use lib.Dec.{eqb}
 use lib.ListN.{length, take, drop}
-use borrow.Author.Tests.{eq-eqb, ne_eqb}
 use Rattle.fields.specs.Bytes.{Bytes}
 use Rattle.fields.specs.Lists.{Each}
 use Rattle.fields.proofs.Laws.Lists.{each_take}
@@ -15,12 +14,8 @@ use Rattle.fields.proofs.Laws.Walks.{walk_step}
 use Rattle.history.specs.Calls.{Call, add, link_up, link_down, message, look, OfBytes, refused, accepted}
 use Rattle.history.specs.Reading.{Reader}
 use Rattle.history.specs.History.{call_at, IsColoured, Answers}
-use Rattle.panel.specs.declared.Panel.{Panel}
-use Rattle.panel.specs.declared.AddResult.{AddResult}
-use Rattle.panel.specs.declared.AddAnswer.{AddAnswer}
-use Rattle.panel.specs.declared.AddAnswer.TheVariants as add-answer
-use Rattle.panel.specs.declared.CallResult.{CallResult}
-use Rattle.panel.specs.declared.LookResult.{LookResult}
+use Rattle.panel.specs.Records.{Panel, AddResult, AddAnswer, CallResult, LookResult}
+use Rattle.panel.specs.Records as add-answer
 use Rattle.panel.specs.declared.LookAnswer.{LookAnswer}
 use Rattle.panel.specs.declared.LookAnswer.TheVariants as look-answer
 use Rattle.panel.specs.declared.Value.{Value}
@@ -29,37 +24,17 @@ use Rattle.panel.specs.Answers.{add_answer, look_answer, Result, of_add, of_call
 use Rattle.panel.specs.Demand3.{result_of, answer_to, panel_next, panel_after}
 use Rattle.panel.proofs.Laws.Contents.{bytes_of, PaddedValue, no-value-padded}
 use Rattle.panel.proofs.Laws.Demand3.{demand-3}
-use Rattle.replay.specs.declared.CallAnswer.{CallAnswer}
-use Rattle.replay.specs.declared.CallAnswer.TheVariants.{Accepted, Refused}
-use Rattle.replay.specs.declared.Answered.{Answered}
-use Rattle.replay.specs.declared.Performed.{Performed}
+use Rattle.replay.specs.Records.{Accepted, Refused, Answered, Performed}
 use Rattle.replay.specs.Script.{call_length, call_of, calls_in}
-use Rattle.replay.specs.Replay.{without_value, added_as, shown_as, after_add, after_call, after_look, performed_by, performed}
+use Rattle.replay.specs.Replay.{added_as, shown_as, after_add, after_call, after_look, performed_by, performed}
 use Rattle.replay.specs.Replay.{no_call, answer_among, answer_at, look_after, saying, Says, AnswersAt, ShowsAfter}
 use Rattle.replay.proofs.Laws.Script.{calls-none, calls-next, calls-bytes}
 
 -- ---- one call
 
 -- what the panel's calls give is handed on with the panel, as the code does it
-abbrev handed_on : Panel → Answered → Performed
+abbrev pub handed_on : Panel → Answered → Performed
 handed_on p a = record { panel = p; answered = a }
-
-pub add-handed-on : (r : AddResult) {a : CallAnswer} {w : Answered} → a ≡ added_as r.answer → w ≡ without_value a → handed_on r.panel w ≡ after_add r
-add-handed-on r e k = ap (handed_on r.panel) (k ∙ ap without_value e)
-
-module _ (r : CallResult) {w : Answered} where
-  by_number : (t : Bool) → eqb r.number 0 ≡ t → w ≡ without_value (cond t Accepted (Refused r.number)) → handed_on r.panel w ≡ after_call r
-  by_number t e k = ap (handed_on r.panel) (k ∙ ap (λ (x : Bool). without_value (cond x Accepted (Refused r.number))) (sym e))
-
-  pub accepted-handed-on : r.number ≡ 0 → w ≡ without_value Accepted → handed_on r.panel w ≡ after_call r
-  accepted-handed-on e = by_number true (eq-eqb r.number 0 e)
-
-  pub refused-handed-on : (r.number ≡ 0 → ⊥) → w ≡ without_value (Refused r.number) → handed_on r.panel w ≡ after_call r
-  refused-handed-on z = by_number false (ne_eqb r.number 0 z)
-
-pub look-handed-on : (r : LookResult) {a : LookAnswer} → r.answer ≡ a
-    → handed_on r.panel (record { answer = shown_as a; value = r.value }) ≡ after_look r
-look-handed-on r e = ap (λ (x : LookAnswer). handed_on r.panel (record { answer = shown_as x; value = r.value })) (sym e)
 
 -- the call c on the panel p, by what the panel's own call returns
 pub performs-as : (p : Panel) (c : Call) {d : Call} {r : Result} → d ≡ c → r ≡ result_of p d → performed_by r ≡ performed p c
@@ -164,11 +139,11 @@ shows-after s i now b e =
     (e, subst (Says cs (look i now)) (sym e) (performed-answers cs o (look i now) (λ R. (demand-3.claim R cs o).after i now)))
 
 -- a look on the panel p after all calls, as the code makes it
-pub look-shown : (s : List ℕ) (i now : ℕ) {p : Panel} {l : LookResult} {q : Performed} → p ≡ panel_after (calls_in s) → l ≡ look_of p i now
-    → q ≡ after_look l → q.answered ≡ look_after s i now
+pub look-shown : (s : List ℕ) (i now : ℕ) {p : Panel} {l : LookResult} {q : Answered} → p ≡ panel_after (calls_in s) → l ≡ look_of p i now
+    → q ≡ (after_look l).answered → q ≡ look_after s i now
 unfolding look_after
 look-shown s i now a b e =
-    ap (λ (x : Performed). x.answered) (e ∙ ap after_look (b ∙ ap (λ (x : Panel). look_of x i now) a))
+    e ∙ ap (λ (x : LookResult). (after_look x).answered) (b ∙ ap (λ (x : Panel). look_of x i now) a)
 
 -- ---- the first call, and the calls left
 

@@ -2,4 +2,4 @@
 use Rattle.bind_layout.proofs.bind_parts.table_of.Goals as goal
 
 pub returns : goal.returns
-returns c = simp (c.part.ensures, c.be16.ensures, c.after_headers-after.ensures)
+returns c = simp (c.part.ensures, c.read.ensures, c.after_headers-after.ensures)

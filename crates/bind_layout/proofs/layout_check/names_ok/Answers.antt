@@ -1,36 +1,34 @@
-use mathlib.Core.Path.{refl, sym, ◌∙◌}
+use mathlib.Core.Path.{sym, ◌∙◌}
 use borrow.Author.Tests.{le-leb, lt-leb}
 use Rattle.bind_layout.specs.BindLayout.{names_ok}
-use Rattle.fields.proofs.Laws.Walks.{walk_end, walk_step}
+use Rattle.fields.proofs.Laws.Walks.{steps_end, steps_next}
 use Rattle.bind_layout.proofs.layout_check.names_ok.Goals as goal
-
-pub loop-left-init : goal.loop-left-init
-loop-left-init c = refl
 
 pub returns-then-not-name_ok : goal.returns-then-not-name_ok
 unfolding names_ok
 returns-then-not-name_ok c =
-    let l = c.loop-left in
-    let s = walk_step (λ k. names_ok k l.t.now) l.left c.loop-left-test.true in
+    let l = c.loop in
+    let s = steps_next (λ k. names_ok k l.left.now) c.args.n l.counter c.loop-test.true in
     sym (l.invariant ∙ s ∙ simp (sym c.name_ok.ensures ∙ c.if-not-name_ok.true))
 
-pub loop-left-preserved : goal.loop-left-preserved
+pub loop-preserved : goal.loop-preserved
 unfolding names_ok
-loop-left-preserved c =
-    let l = c.loop-left in
-    let s = walk_step (λ k. names_ok k l.t.now) l.left c.loop-left-test.true in
-    l.invariant ∙ s ∙ simp (sym c.name_ok.ensures ∙ c.if-not-name_ok.false, c.past_text-next.ensures)
+loop-preserved c =
+    let l = c.loop in
+    let s = steps_next (λ k. names_ok k l.left.now) c.args.n l.counter c.loop-test.true in
+    l.invariant ∙ s ∙ simp (sym c.name_ok.ensures ∙ c.if-not-name_ok.false, c.past_text-left.ensures)
 
-pub returns-then-t-gt1 : goal.returns-then-t-gt1
+pub returns-then-left-le1 : goal.returns-then-left-le1
 unfolding names_ok
-returns-then-t-gt1 c =
-    let l = c.loop-left in
-    let e = walk_end (λ k. names_ok k l.t.now) l.left c.loop-left-test.false in
-    sym (l.invariant ∙ e ∙ simp (lt-leb _ _ c.if-t-gt1.true))
+returns-then-left-le1 c =
+    let l = c.loop in
+    let e = steps_end (λ k. names_ok k l.left.now) c.args.n l.counter c.loop-test.false in
+    c.all_zero.ensures ∙ sym (l.invariant ∙ e ∙ simp (le-leb _ _ c.if-left-le1.true))
 
-pub returns : goal.returns
+pub returns-else-left-le1 : goal.returns-else-left-le1
 unfolding names_ok
-returns c =
-    let l = c.loop-left in
-    let e = walk_end (λ k. names_ok k l.t.now) l.left c.loop-left-test.false in
-    c.all_zero.ensures ∙ sym (l.invariant ∙ e ∙ simp (le-leb _ _ c.if-t-gt1.false))
+returns-else-left-le1 c =
+    let l = c.loop in
+    let e = steps_end (λ k. names_ok k l.left.now) c.args.n l.counter c.loop-test.false in
+    let f = lt-leb _ _ c.if-left-le1.false in
+    f ∙ sym (l.invariant ∙ e ∙ simp f)

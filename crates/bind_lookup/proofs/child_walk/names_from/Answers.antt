@@ -1,20 +1,20 @@
-use Prim.Native.Nat.{◌-◌}
-use mathlib.Core.Path.{refl, sym, ap, ◌∙◌}
+use Prim.Native.Nat.{◌-◌, ◌+◌}
+use mathlib.Core.Path.{sym, ap, ◌∙◌}
 use Rattle.bind_lookup.specs.ChildLookup.{names_from}
-use Rattle.fields.proofs.Laws.Walks.{walk_end, walk_step}
+use Rattle.fields.proofs.Laws.Walks.{steps_end, steps_next}
 use Rattle.bind_lookup.proofs.child_walk.names_from.Goals as goal
 
-pub loop-left-init : goal.loop-left-init
-loop-left-init c = refl
-
-pub loop-left-preserved : goal.loop-left-preserved
+pub loop-preserved : goal.loop-preserved
 unfolding names_from
-loop-left-preserved c =
-    let l = c.loop-left in
-    l.invariant ∙ walk_step (λ k. names_from k l.t.now) l.left c.loop-left-test.true ∙ ap (names_from (l.left - 1)) (sym c.past_text-next.ensures)
+loop-preserved c =
+    let l = c.loop in
+    let i = c.args.i in
+    l.invariant
+    ∙ steps_next (λ k. names_from k l.names.now) i l.counter c.loop-test.true
+    ∙ ap (names_from (i - (l.counter + 1))) (sym c.past_text-names.ensures)
 
 pub returns : goal.returns
 unfolding names_from
 returns c =
-    let l = c.loop-left in
-    sym (l.invariant ∙ walk_end (λ k. names_from k l.t.now) l.left c.loop-left-test.false)
+    let l = c.loop in
+    sym (l.invariant ∙ steps_end (λ k. names_from k l.names.now) c.args.i l.counter c.loop-test.false)

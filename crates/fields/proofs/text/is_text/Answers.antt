@@ -1,39 +1,15 @@
-use mathlib.Core.Path.{refl, sym, ◌∙◌}
-use native.Mathlib.Omega.{arith}
-use lib.ListN.{get_or}
-use Rattle.fields.specs.Text.{is_text, text_byte}
-use Rattle.fields.proofs.Laws.Lists.{all-step, all-stop, all_end}
-use Rattle.fields.proofs.Laws.Text.{text-byte, text-byte-low, text-byte-high}
+-- `fields::text::is_text` meets its contract: the test of every byte, by the library's word for it.
+use Rattle.std.proofs.Common.{rules, refl, ℕ, ◌<◌, All}
+use Rattle.std.specs.Bool.{Decides, one_answer}
+use Rattle.std.proofs.lemmas.Bool.Decides.{Decides-by_and}
+use Rattle.fields.specs.Lists.{all_of}
+use Rattle.fields.specs.Text.{text_byte, is_text}
 use Rattle.fields.proofs.text.is_text.Goals as goal
 
-pub loop-i-init : goal.loop-i-init
-loop-i-init c = refl
-
-pub returns-then-b-eq0 : goal.returns-then-b-eq0
-unfolding is_text
-returns-then-b-eq0 c =
-    let t = c.args.t.now in
-    let l = c.loop-i in
-    sym (l.invariant ∙ all-stop text_byte t l.i 0 (omega arith) (text-byte-low (get_or t l.i 0) c.if-b-eq0.true))
-
-pub returns-then-b-ge-TEXT_LIMIT : goal.returns-then-b-ge-TEXT_LIMIT
-unfolding is_text
-returns-then-b-ge-TEXT_LIMIT c =
-    let t = c.args.t.now in
-    let l = c.loop-i in
-    sym (l.invariant ∙ all-stop text_byte t l.i 0 (omega arith) (text-byte-high (get_or t l.i 0) c.if-b-ge-TEXT_LIMIT.true))
-
-pub loop-i-preserved : goal.loop-i-preserved
-unfolding is_text
-loop-i-preserved c =
-    let t = c.args.t.now in
-    let l = c.loop-i in
-    let p = c.if-b-eq0.false in
-    l.invariant ∙ all-step text_byte t l.i 0 (omega arith) (text-byte (get_or t l.i 0) (omega arith, c.if-b-ge-TEXT_LIMIT.false))
-
 pub returns : goal.returns
-unfolding is_text
+unfolding is_text all_of
 returns c =
     let t = c.args.t.now in
-    let l = c.loop-i in
-    sym (l.invariant ∙ all_end text_byte t l.i (omega arith))
+    let P : ℕ → Type 0 = λ b. (0 < b) × (b < 128) in
+    let d : Decides c.all.result (All P t) = search rules in
+    one_answer c.all.result (all_of text_byte t) d (Decides-by_and text_byte P (all_of text_byte) (λ b. search rules) refl (λ _ _. refl) t)

@@ -1,3 +1,5 @@
+use Rattle.std.proofs.Common.{ℕ, true, length, ◌≡◌}
+use Rattle.fields.specs.Received.{TextField}
 use mathlib.Core.Path.{sym, ap, ◌∙◌}
 use native.Mathlib.Omega.{arith}
 use Rattle.fields.specs.Text.{all_zero}
@@ -11,7 +13,7 @@ pub returns-then-b-eq0 : goal.returns-then-b-eq0
 returns-then-b-eq0 c =
     let f = c.args.f.now in
     let l = c.loop-i in
-    sym (l.invariant ∙ from_zero f l.i (omega arith) c.if-b-eq0.true _ (c.all_zero.ensures ∙ ap all_zero c.rest.ensures))
+    sym (l.invariant ∙ from_zero f l.i (omega arith) c.if-b-eq0.true _ (c.all_zero-clean.ensures ∙ ap all_zero c.rest.ensures))
 
 pub returns-then-b-ge-TEXT_LIMIT : goal.returns-then-b-ge-TEXT_LIMIT
 returns-then-b-ge-TEXT_LIMIT c =
@@ -30,4 +32,6 @@ pub returns : goal.returns
 returns c =
     let f = c.args.f.now in
     let l = c.loop-i in
-    sym (l.invariant ∙ from_end f l.i (omega arith))
+    let long : ℕ → TextField = λ n. record { ok = true; len = n; clean = true } in
+    let e : l.i ≡ length f = omega (arith, l.auto.i-end, c.loop-i-test.false) in
+    sym (l.invariant ∙ from_end f l.i (omega arith) ∙ ap long e)

@@ -16,20 +16,23 @@ use Rattle.message.proofs.body.put_body.Goals as goal
 pub put_extended-requires : goal.put_extended-requires
 put_extended-requires c =
     let a = c.args in
-    subst (λ (v : ℕ). BodyFits a.layout v a.further.now a.content.now a.metadata.now (length a.out.now)) c.if-version-eq2.true c.requires
+    let m = a.message in
+    subst (λ (v : ℕ). BodyFits a.layout v m.further.now m.content.now m.metadata.now (length a.out.now)) c.if-message-eq2.true c.requires
 
-pub returns-then-version-eq2 : goal.returns-then-version-eq2
-returns-then-version-eq2 c =
+pub returns-then-message-eq2 : goal.returns-then-message-eq2
+returns-then-message-eq2 c =
     let a = c.args in
+    let m = a.message in
     c.put_extended.ensures
-    ∙ ap (λ (v : ℕ). sets a.out.now 0 (body_written a.layout v a.id a.type_text.now a.further.now a.content.now a.metadata.now)) (sym c.if-version-eq2.true)
+    ∙ ap (λ (v : ℕ). sets a.out.now 0 (body_written a.layout v m.id m.type_text.now m.further.now m.content.now m.metadata.now)) (sym c.if-message-eq2.true)
 
 pub returns : goal.returns
 returns c =
     let a = c.args in
-    let t = a.type_text.now in
-    let y = a.content.now in
-    let l = long-1 a.version (length a.further.now) (length y) (length a.metadata.now) c.if-version-eq2.false in
+    let m = a.message in
+    let t = m.type_text.now in
+    let y = m.content.now in
+    let l = long-1 m.version (length m.further.now) (length y) (length m.metadata.now) c.if-message-eq2.false in
     c.put_clean.ensures
     ∙ put-fits deepest t y 0 a.out.now (omega (arith, l, c.requires.2))
-    ∙ ap (sets a.out.now 0) (sym (body-1 a.layout a.version (index_size_in a.metadata.now) (sections_given a.id a.further.now (clean_bytes deepest t y) a.metadata.now) c.if-version-eq2.false))
+    ∙ ap (sets a.out.now 0) (sym (body-1 a.layout m.version (index_size_in m.metadata.now) (sections_given m.id m.further.now (clean_bytes deepest t y) m.metadata.now) c.if-message-eq2.false))

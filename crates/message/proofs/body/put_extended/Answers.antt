@@ -25,7 +25,7 @@ pub overflow_add-metadata_at : goal.overflow_add-metadata_at
 overflow_add-metadata_at c = omega (arith, (c.requires.0 refl).0, c.requires.1)
 
 pub extended_numbers-numbers-requires : goal.extended_numbers-numbers-requires
-extended_numbers-numbers-requires c = subst (λ (k : ℕ). MetadataFits c.args.layout k (length c.args.metadata.now)) (sym c.index_size-index.ensures) (c.requires.0 refl).1
+extended_numbers-numbers-requires c = subst (λ (k : ℕ). MetadataFits c.args.layout k (length c.args.message.metadata.now)) (sym c.index_size-index.ensures) (c.requires.0 refl).1
 
 pub overflow_cast-content_at : goal.overflow_cast-content_at
 overflow_cast-content_at c = search (rules, (c.requires.0 refl).0)
@@ -34,23 +34,24 @@ pub returns : goal.returns
 returns c =
     -- the seven stores, from the last to the first
     let a = c.args in
-    let t = a.type_text.now in
-    let y = a.content.now in
-    let n : ℕ = 12 + length a.further.now in
-    let x = sections_given a.id a.further.now (clean_bytes deepest t y) a.metadata.now in
+    let m = a.message in
+    let t = m.type_text.now in
+    let y = m.content.now in
+    let n : ℕ = 12 + length m.further.now in
+    let x = sections_given m.id m.further.now (clean_bytes deepest t y) m.metadata.now in
     let e = c.extended_numbers-numbers.ensures
-    ∙ ap (λ (k : ℕ). extended_numbers a.layout k (length a.metadata.now) a.id) c.index_size-index.ensures in
-    let front = c.put.ensures
-    ∙ ap (λ (r : List ℕ). sets r 12 a.further.now)
-    (c.put32-2.ensures
+    ∙ ap (λ (k : ℕ). extended_numbers a.layout k (length m.metadata.now) m.id) c.index_size-index.ensures in
+    let front = c.put-5.ensures
+    ∙ ap (λ (r : List ℕ). sets r 12 m.further.now)
+    (c.put-4.ensures
     ∙ ap₂ (λ (r : List ℕ) (x : ExtendedNumbers). sets r 8 (be_bytes 4 x.fourth))
-    (c.put32.ensures
+    (c.put-3.ensures
     ∙ ap₂ (λ (r : List ℕ) (x : ExtendedNumbers). sets r 4 (be_bytes 4 x.third))
-    (c.put16-2.ensures ∙ ap₂ (λ (r : List ℕ) (x : ExtendedNumbers). sets r 2 (be_bytes 2 x.second)) c.put16.ensures e) e) e) in
+    (c.put-2.ensures ∙ ap₂ (λ (r : List ℕ) (x : ExtendedNumbers). sets r 2 (be_bytes 2 x.second)) c.put.ensures e) e) e) in
     let clean =
     put-left deepest t y n _ _ c.put_clean.ensures
-    (omega (arith, c.requires.2, c.put.auto.out, c.put32-2.auto.out, c.put32.auto.out, c.put16-2.auto.out, c.put16.auto.out)) in
-    c.put-2.ensures
-    ∙ ap₂ (λ (r : List ℕ) (k : ℕ). sets r (n + k) a.metadata.now) (clean ∙ ap (λ (r : List ℕ). sets r n (clean_bytes deepest t y)) front) (sym (length-clean deepest t y))
-    ∙ extended-stored a.layout (index_size_in a.metadata.now) x a.out.now
-    ∙ ap (sets a.out.now 0) (sym (body-2 a.layout 2 (index_size_in a.metadata.now) x refl))
+    (omega (arith, c.requires.2, c.put-5.auto.out, c.put-4.auto.out, c.put-3.auto.out, c.put-2.auto.out, c.put.auto.out)) in
+    c.put-6.ensures
+    ∙ ap₂ (λ (r : List ℕ) (k : ℕ). sets r (n + k) m.metadata.now) (clean ∙ ap (λ (r : List ℕ). sets r n (clean_bytes deepest t y)) front) (sym (length-clean deepest t y))
+    ∙ extended-stored a.layout (index_size_in m.metadata.now) x a.out.now
+    ∙ ap (sets a.out.now 0) (sym (body-2 a.layout 2 (index_size_in m.metadata.now) x refl))

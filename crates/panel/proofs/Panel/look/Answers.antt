@@ -1,36 +1,27 @@
 -- `panel::Panel::look` meets its contract: the laws of its checks in turn, and of a tile that is shown.
-use mathlib.Core.Path.{ap, ◌∙◌}
-use lib.ListN.{get_or}
-use borrow.Author.Tests.{not-true, not-false}
-use Rattle.panel.specs.Tiles.{no_tile}
-use Rattle.panel.proofs.Laws.Calls.{look_words, look-past, look-free, look-late, look-done}
+use mathlib.Core.Path.{refl, sym, ap, ◌∙◌}
+use Rattle.std.specs.Prelude.{Some}
+use Rattle.panel.specs.declared.Value.{Value}
+use Rattle.panel.specs.declared.LookAnswer.TheVariants.{Refused}
+use Rattle.panel.specs.Tiles.{tile_of}
+use Rattle.panel.specs.Calls.{panel_of}
+use Rattle.fields.proofs.Laws.Answer.{fault_some}
+use Rattle.panel.proofs.Laws.Calls.{look_words, look-refused, look-shown}
 use Rattle.panel.proofs.Panel.look.Goals as goal
 
-pub returns-then-tile-ge-TILES : goal.returns-then-tile-ge-TILES
-returns-then-tile-ge-TILES c =
-    let e = c.refused_look.ensures ∙ look-past _ _ _ c.if-tile-ge-TILES.true in
-    record { equal = e; words = ap look_words e }
-
-pub returns-then-not-t : goal.returns-then-not-t
-returns-then-not-t c =
+pub returns-in-Ok : goal.returns-in-Ok
+returns-in-Ok c =
     let a = c.args in
-    let e = not-true (get_or a.self.tiles a.tile no_tile).used c.if-not-t.true in
-    let e =
-    c.refused_look-then-not-t.ensures ∙ look-free a.self a.tile a.clock c.if-tile-ge-TILES.false e in
-    record { equal = e; words = ap look_words e }
+    let s = c.show-looked in
+    let e = look-shown (panel_of a.self) a.tile a.clock (tile_of (Some c.in-Ok.shown)) c.in-Ok.ensures.tile s.result s.ensures.answer s.ensures.value
+    (sym c.in-Ok.ensures.number) in
+    record { equal = e; words = ap look_words e; same = refl }
 
-pub returns-then-clock-self : goal.returns-then-clock-self
-returns-then-clock-self c =
+pub returns-in-Err : goal.returns-in-Err
+returns-in-Err c =
     let a = c.args in
-    let e = not-false (get_or a.self.tiles a.tile no_tile).used c.if-not-t.false in
+    let f = c.number.ensures ∙ c.in-Err.ensures.number in
     let e =
-    c.refused_look-then-clock-self.ensures ∙ look-late a.self a.tile a.clock c.if-tile-ge-TILES.false e c.if-clock-self.true in
-    record { equal = e; words = ap look_words e }
-
-pub returns : goal.returns
-returns c =
-    let a = c.args in
-    let e = not-false (get_or a.self.tiles a.tile no_tile).used c.if-not-t.false in
-    let e =
-    c.look_at.ensures ∙ look-done a.self a.tile a.clock c.if-tile-ge-TILES.false e c.if-clock-self.false in
-    record { equal = e; words = ap look_words e }
+    ap (λ (v : Value). record { panel = panel_of a.self; answer = Refused c.number.result; value = v }) c.no_value.ensures
+    ∙ look-refused (panel_of a.self) a.tile a.clock c.number.result (sym f) (λ z. fault_some c.in-Err.fault (sym c.number.ensures ∙ z)) in
+    record { equal = e; words = ap look_words e; same = refl }

@@ -1,7 +1,0 @@
--- `bind_lookup::named_fault` meets its contract.
-use mathlib.Core.Path.{ap}
-use Rattle.bind_lookup.specs.declared.Place.{Place}
-use Rattle.bind_lookup.proofs.named_fault.Goals as goal
-
-pub returns : goal.returns
-returns c = ap (λ (p : Place). p.number) c.named_place.ensures

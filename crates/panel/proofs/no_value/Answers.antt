@@ -1,8 +1,0 @@
--- `panel::no_value` meets its contract: zeros, and none of them counted.
-use mathlib.Core.Path.{refl}
-use Rattle.fields.specs.Bytes.{sized}
-use Rattle.panel.proofs.no_value.Goals as goal
-
-pub returns : goal.returns
-unfolding sized
-returns c = refl

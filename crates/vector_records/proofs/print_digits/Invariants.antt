@@ -1,6 +1,0 @@
--- `vector_records::print_digits` is safe and ends. The measure is the number of bytes that are left.
-use Rattle.std.proofs.Common.{length}
-use Rattle.vector_records.proofs.print_digits.Given as goal
-
-abbrev pub decreases-loop-left : goal.decreases-loop-left
-decreases-loop-left g l = length l.left
