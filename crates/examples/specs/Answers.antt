@@ -1,11 +1,12 @@
 -- What the code's answers are in the words of the definitions: an accepted answer and a refusal of each kind. The definitions that say so stand in
 -- the contracts, and a version that turns a field in the code and in such a definition together is refused here.
 use Rattle.std.specs.Prelude.{ℕ, ◌≡◌, Bool, true, false, Ok, Err, Some, None, [], ◌∷◌, map, replicate}
+use Rattle.std.specs.NonZero.{non_zero_usize_get}
 use Rattle.fields.specs.declared.fault.Fault.TheVariants.{PoseLength, Image, Bind, NotFound, NoRoom, FeedStopped, PanelFull, ClockBehind}
 use Rattle.fields.specs.Answer.{Wrote, Refused, written_of, checked_of}
 use Rattle.fields.specs.Received.{field_of}
 use Rattle.pose.specs.declared.Transform.{Transform}
-use Rattle.pose.specs.TransformReader.{transform_read}
+use Rattle.pose.specs.TransformReader.{no_transform, transform_read}
 use Rattle.pose.specs.PositionReader.{position_read}
 use Rattle.image.specs.declared.ImageHeader.{ImageHeader}
 use Rattle.image.specs.ImageReader.{no_header, image_read}
@@ -18,7 +19,7 @@ use Rattle.message.specs.MessageWriter.{given, given_of}
 use Rattle.message.specs.declared.Layout.{Layout}
 use Rattle.message.specs.declared.Answer.{Answer}
 use Rattle.feed.specs.declared.Feed as code
-use Rattle.feed.specs.declared.State.TheVariants.{Keeping, Stopped}
+use Rattle.feed.specs.declared.State.TheVariants.{Keeping, Passing, Stopped}
 use Rattle.feed.specs.Feed.{Feed, Nothing, Read, feed_of, push_answered}
 use Rattle.feed.specs.Feed as pushing
 use Rattle.feed.specs.Opening as opening
@@ -40,7 +41,7 @@ pub record Answers : Type 0 where
       ≡ record { ok = true; len = 3; clean = true } ∷ record { ok = true; len = 4; clean = false } ∷ record { ok = false; len = 0; clean = false } ∷ []
   -- the readers of contents
   pub transform : (t : Transform) → transform_read (Ok t) ≡ record { number = 0; transform = t }
-  pub no_transform : (transform_read (Err PoseLength)).number ≡ 8
+  pub no_transform_read : transform_read (Err PoseLength) ≡ record { number = 8; transform = no_transform }
   pub position : position_read (Ok (record { count = 3; words = 1 ∷ 2 ∷ 3 ∷ 0 ∷ 0 ∷ 0 ∷ 0 ∷ [] }))
       ≡ record { number = 0; count = 3; words = 1 ∷ 2 ∷ 3 ∷ 0 ∷ 0 ∷ 0 ∷ 0 ∷ [] }
   pub no_position : position_read (Err PoseLength) ≡ record { number = 8; count = 0; words = replicate 7 0 }
@@ -62,6 +63,9 @@ pub record Answers : Type 0 where
       ≡ given (record { version = m.version; time_stamp = m.time_stamp; id = m.id }) m.type_text.now m.device_name.now m.further.now m.content.now m.metadata.now
   -- feeds
   pub kept : (l : Layout) (n k : ℕ) → feed_of (record { layout = l; room = n; state = Keeping k }) ≡ record { layout = l; room = n; kept = k; step = 0; left = 0; stopped = false }
+  pub passing : (l : Layout) (n s : ℕ) (k : _)
+      → feed_of (record { layout = l; room = n; state = Passing s k })
+      ≡ record { layout = l; room = n; kept = 0; step = s; left = non_zero_usize_get k; stopped = false }
   pub stopped : (l : Layout) (n : ℕ) → feed_of (record { layout = l; room = n; state = Stopped }) ≡ record { layout = l; room = n; kept = 0; step = 0; left = 0; stopped = true }
   pub opened : (f : code.Feed) → opened_as (Ok f) ≡ opening.Opened (feed_of f)
   pub not_opened : opened_as (Err NoRoom) ≡ opening.Refused 20

@@ -1,12 +1,15 @@
 -- Examples of scripts byte by byte, and of what running one gives.
-use Rattle.std.specs.Prelude.{ℕ, ◌≡◌, List, [], ◌∷◌, ◌++◌, map, replicate}
+use Rattle.std.specs.Prelude.{ℕ, ◌≡◌, Some, None, List, [], ◌∷◌, ◌++◌, map, replicate}
 use Rattle.std.proofs.Math.Option.{none, some}
 use Rattle.fields.specs.Layout.{join}
 use Rattle.message.specs.Samples.{arm_bytes}
 use Rattle.message.specs.declared.Layout.TheVariants.{New, Old}
 use Rattle.history.specs.Calls.{Call, add, link_up, link_down, message, look, green, grey, refused, accepted, added, empty, shown}
 use Rattle.panel.specs.Examples.{arm_value, zero_value}
-use Rattle.replay.specs.Records.{CallAnswer, Accepted, Added, Empty, Green, Grey, Refused, NoCall, Answered}
+use Rattle.panel.specs.declared.Value.{Value}
+use Rattle.replay.specs.declared.CallAnswer as code
+use Rattle.replay.specs.declared.CallAnswer.TheVariants as said
+use Rattle.replay.specs.Records.{CallAnswer, Accepted, Added, Empty, Green, Grey, Refused, NoCall, Answered, answer_of, answered_in}
 use Rattle.replay.specs.Script.{calls_in}
 use Rattle.replay.specs.Replay.{answer_at, look_after, saying}
 
@@ -100,6 +103,11 @@ pub record Examples : Type 0 where
       ∷ some (refused n)
       ∷ none
       ∷ []
+  -- what the code's answers stand for, each case; with a value, and where the script has no call
+  pub cases : map answer_of (said.Accepted ∷ said.Added 3 ∷ said.Empty ∷ said.Green 5 ∷ said.Grey 6 ∷ said.Refused 15 ∷ [])
+      ≡ Accepted ∷ Added 3 ∷ Empty ∷ Green 5 ∷ Grey 6 ∷ Refused 15 ∷ []
+  pub with_value : (a : code.CallAnswer) (v : Value) → answered_in (Some (record { answer = a; value = v })) ≡ record { answer = answer_of a; value = v }
+  pub without_call : answered_in None ≡ without_bytes NoCall
   -- P10's calls, run, and looks after them
   pub arm_added : answer_at arm_script 0 ≡ without_bytes (Added 0)
   pub arm-linked : answer_at arm_script 1 ≡ without_bytes Accepted
