@@ -112,9 +112,17 @@ impl<'a> Children<'a> {
         ensures headers { result.headers.now ≡ drop child_header_size self.entry.headers.now }
         ensures content { result.data.now ≡ after_block (size_of self.entry.headers.now) self.entry.data.now }
     {
+        self.after(self.size())
+    }
+
+    // The same where the first one's content is known to have n bytes: a walk that asks for its size reads it once.
+    pub fn after(self, n: usize) -> Children<'a>
+        ensures headers { result.headers.now ≡ drop child_header_size self.entry.headers.now }
+        ensures content { result.data.now ≡ after_block n self.entry.data.now }
+    {
         Children {
             headers: fields::slice::rest(self.headers, CHILD_HEADER_SIZE),
-            data: after_block(self.data, self.size()),
+            data: after_block(self.data, n),
         }
     }
 }

@@ -78,10 +78,11 @@ fn data_ok(children: Children, n: usize) -> bool
 {
     let mut left = children;
     for _ in 0..n {
-        if !block_ok(left.data, left.size()) {
+        let size = left.size();
+        if !block_ok(left.data, size) {
             return false;
         }
-        left = left.after_first();
+        left = left.after(size);
     }
     left.data.len() == 0
 }

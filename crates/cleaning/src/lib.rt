@@ -77,11 +77,11 @@ fn put_bind(content: &[u8], levels: u32, at: usize, out: &mut [u8])
     let mut left = Children::of(content);
     for _ in 0..bind_layout::bind_parts::child_count(content) {
         let size = left.size();
-        let child = left.content();
+        let child = first(left.data, size);
         let to = at + (content.len() - left.data.len());
         put_content(left.type_text(), child, levels - 1, to, out);
         put(part(left.data, size, size % 2), to + child.len(), out);
-        left = left.after_first();
+        left = left.after(size);
     }
 }
 

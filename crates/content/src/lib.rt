@@ -9,6 +9,7 @@ ghost use Rattle.content.specs.ContentCheck.{content_fault, bind_fault, content_
 
 use bind_layout::bind_parts::Children;
 use fields::fault::Fault;
+use fields::slice::first;
 
 // How many levels of BIND there may be (rule 4.15), and how many are left for a child of the outermost.
 pub const DEEPEST: u32 = 4;
@@ -81,9 +82,10 @@ fn nested_bind_check(content: &[u8], levels: u32) -> Result<bool, Fault>
     let mut clean = bind_layout::layout_check::layout_check(content)?;
     let mut left = Children::of(content);
     for _ in 0..bind_layout::bind_parts::child_count(content) {
-        let child = nested_check(left.type_text(), left.content(), levels - 1)?;
+        let size = left.size();
+        let child = nested_check(left.type_text(), first(left.data, size), levels - 1)?;
         clean &= child;
-        left = left.after_first();
+        left = left.after(size);
     }
     Ok(clean)
 }

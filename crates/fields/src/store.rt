@@ -11,7 +11,10 @@ pub fn put(src: &[u8], at: usize, out: &mut [u8])
         return;
     }
     let t = crate::slice::first(src, out.len() - at);
-    out[at..at + t.len()].copy_from_slice(t);
+    // A call of the library's copy would have the archive for C need a name more from outside.
+    for i in 0..t.len() {
+        out[at + i] = t[i];
+    }
 }
 
 // The first N bytes of s, with zeros after them where there are fewer.

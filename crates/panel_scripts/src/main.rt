@@ -4,7 +4,8 @@
 // ends the run.
 #![tactic(auto)]
 
-ghost use Rattle.std.specs.Prelude.{length};
+ghost use Rattle.std.specs.Prelude.{◌≡◌, ◌+◌, length};
+ghost use Rattle.fields.specs.Numbers.{be_at};
 
 use fields::number::Number;
 use replay::{Answered, CallAnswer};
@@ -59,6 +60,13 @@ fn print_script(rt: &impl Print, number: usize, record: Record<'_>) -> io::Resul
 // Where the script of a record begins.
 const SCRIPT_AT: usize = 12;
 
+// Where the record at the front ends.
+fn end(records: &[u8]) -> usize
+    ensures { result ≡ 12 + be_at 4 0 records.now }
+{
+    SCRIPT_AT + u32::read(records, 0) as usize
+}
+
 // A script, and the clock for the looks after it.
 #[derive(Clone, Copy)]
 struct Record<'a> {
@@ -80,15 +88,15 @@ impl<'a> Iterator for Records<'a> {
     ghost remaining = { λ records. at_most (length records.left.now) };
 
     fn next(&mut self) -> Option<Record<'a>> {
-        let end = SCRIPT_AT + u32::read(self.left, 0) as usize;
-        if self.left.len() < end {
+        let to = end(self.left);
+        if self.left.len() < to {
             return None;
         }
         let record = Record {
             clock: u64::read(self.left, 4),
-            script: &self.left[SCRIPT_AT..end],
+            script: &self.left[SCRIPT_AT..to],
         };
-        self.left = &self.left[end..];
+        self.left = &self.left[to..];
         Some(record)
     }
 }

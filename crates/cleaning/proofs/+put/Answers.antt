@@ -6,11 +6,11 @@ use Rattle.std.specs.Prelude.{Result}
 use Rattle.std.specs.Result.{is_err}
 use Rattle.fields.specs.declared.fault.Fault.{Fault}
 use native.Mathlib.Omega.{arith}
-use lib.ListN.{length, take}
+use lib.ListN.{length}
 use lib.Seq.{sets}
 use Rattle.fields.specs.Answer.{checked_of}
 use Rattle.fields.proofs.Laws.Answer.{number_is, err_number, ok_number}
-use Rattle.bind_layout.specs.BindLayout.{child_count, after_block, data_ok, layout_fault, layout_checked}
+use Rattle.bind_layout.specs.BindLayout.{child_count, data_ok, layout_fault, layout_checked}
 use Rattle.bind_layout.proofs.Laws.Read.{data-shorter, layout-data}
 use Rattle.content.proofs.Laws.ChildrenWalk.{layout-number}
 use Rattle.cleaning.proofs.Laws.CleaningWalk.{bind-deep, bind-unlaid, bind-start, datas-end, datas-walk, left-ok, left-shorter, child_fits, as-bind, as-other}
@@ -63,9 +63,8 @@ put_bind-put_content-requires t c =
     let d = c.loop.left.data.now in
     let k = c.child_count-end.result - c.loop.counter in
     let p : 0 < k = omega (arith, c.loop-test.true) in
-    let w = sym c.size-size.ensures in
-    let x = c.content-child.ensures ∙ ap (λ (m : ℕ). take m d) w in
-    let f : length c.content-child.result.now ≤ length d = child_fits l [] [] [] [] h d [] c.content-child.result.now [] [] [] 0 (length d) k c.size-size.result p c.loop.invariant.3 (omega arith) c.size-size.ensures x in
+    let x = c.first-child.ensures in
+    let f : length c.first-child.result.now ≤ length d = child_fits l [] [] [] [] h d [] c.first-child.result.now [] [] [] 0 (length d) k c.size-size.result p c.loop.invariant.3 (omega arith) c.size-size.ensures x in
     (omega (arith, f, c.loop.invariant.2), omega (arith, f, c.loop.invariant.1, c.put_front.auto.out, c.loop.invariant.2, c.requires))
 
 pub put_bind-overflow_add-to-in-loop : goal.put_bind-overflow_add-to-in-loop
@@ -75,9 +74,8 @@ put_bind-overflow_add-to-in-loop t c =
     let d = c.loop.left.data.now in
     let k = c.child_count-end.result - c.loop.counter in
     let p : 0 < k = omega (arith, c.loop-test.true) in
-    let w = sym c.size-size.ensures in
-    let x = c.content-child.ensures ∙ ap (λ (m : ℕ). take m d) w in
-    let f : length c.content-child.result.now ≤ length d = child_fits l [] [] [] [] h d [] c.content-child.result.now [] [] [] 0 (length d) k c.size-size.result p c.loop.invariant.3 (omega arith) c.size-size.ensures x in
+    let x = c.first-child.ensures in
+    let f : length c.first-child.result.now ≤ length d = child_fits l [] [] [] [] h d [] c.first-child.result.now [] [] [] 0 (length d) k c.size-size.result p c.loop.invariant.3 (omega arith) c.size-size.ensures x in
     omega (arith, f, c.loop.invariant.2, c.requires, c.well_formed)
 
 pub put_bind-loop-preserved : goal.put_bind-loop-preserved
@@ -90,20 +88,19 @@ put_bind-loop-preserved t c =
     let d = g.left.data.now in
     let k = c.child_count-end.result - c.loop.counter in
     let p : 0 < k = omega (arith, c.loop-test.true) in
-    let w = sym c.size-size.ensures in
-    let x = c.content-child.ensures ∙ ap (λ (m : ℕ). take m d) w in
-    let hs = c.after_first-left.ensures.headers in
-    let ds = c.after_first-left.ensures.content ∙ ap (λ (m : ℕ). after_block m d) w in
+    let x = c.first-child.ensures in
+    let hs = c.after-left.ensures.headers in
+    let ds = c.after-left.ensures.content in
     let j : k - 1 ≡ c.child_count-end.result - (g.counter + 1) = omega arith in
-    let nh = c.after_first-left.result.headers.now in
-    let nd = c.after_first-left.result.data.now in
+    let nh = c.after-left.result.headers.now in
+    let nd = c.after-left.result.data.now in
     let fits : length d ≤ length s = omega (arith, g.invariant.2) in
-    let less = left-shorter l [] [] [] [] h d [] c.content-child.result.now [] [] c.after_first-left.result.data.now 0 (length s) k c.size-size.result p g.invariant.3 fits c.size-size.ensures x ds in (
+    let less = left-shorter l [] [] [] [] h d [] c.first-child.result.now [] [] c.after-left.result.data.now 0 (length s) k c.size-size.result p g.invariant.3 fits c.size-size.ensures x ds in (
       datas-walk l _ g.out _ _ h d _ _ _ _ _ z.at (length s) k c.size-size.result p g.invariant.3 fits c.size-size.ensures x g.invariant.0 c.put_content.ensures c.type_text.ensures c.put-in-loop.ensures c.part.ensures hs ds
           ∙ ap (λ (m : ℕ). sets c.put-in-loop.new.out (z.at + (length s - length nd)) (clean_blocks (clean_bind l) m nh nd)) j,
       c.put-in-loop.auto.out ∙ c.put_content.auto.out ∙ g.invariant.1,
       omega (arith, less, g.invariant.2),
-      ap (λ (m : ℕ). data_ok m nh nd) (sym j) ∙ left-ok l [] [] [] [] h d [] c.content-child.result.now [] c.after_first-left.result.headers.now c.after_first-left.result.data.now 0 (length s) k c.size-size.result p g.invariant.3 fits c.size-size.ensures x hs ds,
+      ap (λ (m : ℕ). data_ok m nh nd) (sym j) ∙ left-ok l [] [] [] [] h d [] c.first-child.result.now [] c.after-left.result.headers.now c.after-left.result.data.now 0 (length s) k c.size-size.result p g.invariant.3 fits c.size-size.ensures x hs ds,
     )
 
 pub put_bind-returns : goal.put_bind-returns

@@ -69,7 +69,7 @@ nested_bind_check-loop-init t c =
 pub nested_bind_check-nested_check-requires : goal.nested_bind_check-nested_check-requires
 nested_bind_check-nested_check-requires t c =
     let d = c.loop.left.data.now in
-    let e = ap length c.content.ensures ∙ length-take (size_of c.loop.left.headers.now) d in
+    let e = ap length c.first.ensures ∙ length-take c.size-size.result d in
     (omega arith, tt)
 
 pub nested_bind_check-returns-in_err-child : goal.nested_bind_check-returns-in_err-child
@@ -82,7 +82,7 @@ nested_bind_check-returns-in_err-child t c =
     let r = checked_of (Err f) in
     let k = c.child_count-end.result - c.loop.counter in
     let p : 0 < k = omega (arith, c.loop-test.true) in
-    let e : r ≡ content_checked l (type_of h) (take (size_of h) d) = child-answer l h d c.in_err-child.ensures c.type_text.ensures c.content.ensures refl in
+    let e : r ≡ content_checked l (type_of h) (take (size_of h) d) = child-answer l h d c.in_err-child.ensures c.type_text.ensures c.first.ensures c.size-size.ensures in
     let stop = c.loop.invariant.0 ∙ children-stop l k h d p r.number (child-fault l k h d p r e) (fault_some f) in
     ap checked_of (passed_on f c.from_residual-in_err-child.result c.from_residual-in_err-child.ensures.1) ∙ child-stop l k h d p r e z.levels z.content.now stop (fault_some f)
 
@@ -95,14 +95,15 @@ nested_bind_check-loop-preserved t c =
     let r : Checked = record { number = 0; clean = m } in
     let k = c.child_count-end.result - c.loop.counter in
     let p : 0 < k = omega (arith, c.loop-test.true) in
-    let e : r ≡ content_checked l (type_of h) (take (size_of h) d) = child-answer l h d c.in_ok-child.ensures c.type_text.ensures c.content.ensures refl in
-    let n = ap length c.after_first-left.ensures.content ∙ length-after_block (size_of h) d in
-    let hs = sym c.after_first-left.ensures.headers in
-    let ds = sym c.after_first-left.ensures.content in
+    let e : r ≡ content_checked l (type_of h) (take (size_of h) d) = child-answer l h d c.in_ok-child.ensures c.type_text.ensures c.first.ensures c.size-size.ensures in
+    let after = c.after-left.ensures.content ∙ ap (λ (m : ℕ). after_block m d) c.size-size.ensures in
+    let n = ap length after ∙ length-after_block (size_of h) d in
+    let hs = sym c.after-left.ensures.headers in
+    let ds = sym after in
     let j : k - 1 ≡ c.child_count-end.result - (c.loop.counter + 1) = omega arith in
     let others : ℕ → List ℕ → List ℕ → Bool = children_clean (bind_clean l) in
-    let x = c.after_first-left.result.headers.now in
-    let y = c.after_first-left.result.data.now in (
+    let x = c.after-left.result.headers.now in
+    let y = c.after-left.result.data.now in (
       c.loop.invariant.0
           ∙ children-next l k h d p r.number (child-fault l k h d p r e) refl
           ∙ ap₂ (children_fault (bind_fault l) (k - 1)) hs ds

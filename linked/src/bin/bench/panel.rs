@@ -15,7 +15,7 @@ const CALLS: u64 = 1_000;
 const CLOCK: u64 = 10_000;
 
 /// The bytes of a panel, as the archive copies it.
-const PANEL: usize = 1_936;
+const PANEL: usize = 2_064;
 
 /// The kinds of these answers in `linked::Answered`.
 const ACCEPTED: u64 = 0;

@@ -9,7 +9,7 @@ returns-then-not-block_ok c =
     let l = c.loop in
     let s = steps_next (λ k. data_ok k l.left.headers.now l.left.data.now) c.args.n l.counter c.loop-test.true in
     let e = sym c.block_ok.ensures ∙ c.if-not-block_ok.true in
-    sym (l.invariant ∙ s ∙ simp (sym c.size.ensures, e))
+    sym (l.invariant ∙ s ∙ simp (sym c.size-size.ensures, e))
 
 pub loop-preserved : goal.loop-preserved
 unfolding data_ok
@@ -17,7 +17,7 @@ loop-preserved c =
     let l = c.loop in
     let s = steps_next (λ k. data_ok k l.left.headers.now l.left.data.now) c.args.n l.counter c.loop-test.true in
     let e = sym c.block_ok.ensures ∙ c.if-not-block_ok.false in
-    l.invariant ∙ s ∙ simp (sym c.size.ensures, e, c.after_first-left.ensures.headers, c.after_first-left.ensures.content)
+    l.invariant ∙ s ∙ simp (sym c.size-size.ensures, e, c.after-left.ensures.headers, c.after-left.ensures.content)
 
 pub returns : goal.returns
 unfolding data_ok

@@ -18,4 +18,4 @@ returns-in_err-clock_fault c =
 pub returns : goal.returns
 returns c =
     let a = c.args in
-    link-done a.link.up a.link.layout (panel_of a.self.now) a.link.clock (sym c.in_ok-clock_fault.ensures) _ c.relink_all-self.ensures
+    link-done a.link.up a.link.layout (panel_of a.self.now) a.link.clock (sym c.in_ok-clock_fault.ensures) _ c.relink_all.ensures
